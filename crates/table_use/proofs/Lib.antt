@@ -1,12 +1,13 @@
 mod Bools
-mod Tests
+pub mod Tests
 mod Numbers
 mod Looks
-mod Present
-mod Judged
+pub mod Present
+pub mod Judged
 mod Covered
 mod Pushed
 mod Walked
+mod MetInputs
 mod Repeats
 pub mod Written
 mod InNetwork

@@ -1,12 +1,13 @@
 // What is so of a machine's snapshots, looked up by their numbers.
-ghost use Rattle.std.specs.Prelude.{◌≡◌, ◌+◌, ◌%◌, ◌<◌, ◌^◌, ℕ, List, true, not, length, drop, IfOk, IsTrue};
+ghost use Rattle.std.specs.Prelude.{◌≡◌, ◌+◌, ◌%◌, ◌<◌, ◌^◌, ℕ, List, true, false, not, length, drop, IfOk, IsTrue};
 ghost use Rattle.domains.specs.Names.{is_same};
 ghost use Rattle.domains.specs.Tables.{are_sizes, fits, product, rank};
 ghost use Rattle.transition_table.specs.Computed.{result_codes};
 ghost use Rattle.table_use.specs.Lint.{counts};
-ghost use Rattle.journals.specs.Seen.{is_seen};
+ghost use Rattle.journals.specs.Seen.{is_present, is_seen};
 ghost use Rattle.table_use.specs.Use.{can_fire, fires_alone, is_jammed, is_unused, without};
 ghost use Rattle.table_use.specs.Keys.{AreKeys};
+ghost use Rattle.table_use.specs.inner.Looking.{class_of};
 
 use crate::keys::Keys;
 use domains::{Codes, VarTable};
@@ -68,18 +69,25 @@ pub(crate) fn fires_at(lookup: &Lookup, n: u64) -> bool
     *lookup.keys.fires.get(*lookup.results.numbers.get(n))
 }
 
-// Whether two snapshots have the same outcome.
-fn same_at(lookup: &Lookup, n: u64, other: u64) -> bool
-    requires one { n < product lookup.now.machine.now.vars }
-    requires other { other < product lookup.now.machine.now.vars }
+/// The class of the snapshot of a number: those of one class have the same outcome.
+pub(crate) fn class_at(lookup: &Lookup, n: u64) -> u64
+    requires { n < product lookup.now.machine.now.vars }
+    ensures { result ≡ class_of lookup.now.results.now lookup.now.keys.now n }
+{
+    *lookup.keys.firsts.get(*lookup.results.numbers.get(n))
+}
+
+/// Whether the snapshot of a number has the outcome of a class.
+pub(crate) fn stays_at(lookup: &Lookup, class: u64, other: u64) -> bool
+    requires { other < product lookup.now.machine.now.vars }
     ensures { (s t : List ℕ) → fits lookup.now.machine.now.vars s ≡ true
-        → fits lookup.now.machine.now.vars t ≡ true → rank lookup.now.machine.now.vars s ≡ n
+        → fits lookup.now.machine.now.vars t ≡ true
+        → class ≡ class_of lookup.now.results.now lookup.now.keys.now
+        (rank lookup.now.machine.now.vars s)
         → rank lookup.now.machine.now.vars t ≡ other → result
         ≡ is_same (result_codes lookup.now.machine.now s) (result_codes lookup.now.machine.now t) }
 {
-    let one = *lookup.keys.firsts.get(*lookup.results.numbers.get(n));
-    let same = *lookup.keys.firsts.get(*lookup.results.numbers.get(other));
-    one == same
+    class == class_at(lookup, other)
 }
 
 /// Whether some input is present on the snapshot of a number.
@@ -104,26 +112,20 @@ pub(crate) fn unused_at(lookup: &Lookup, n: u64, codes: &Codes, i: u64) -> bool
     if !fires_at(lookup, n) {
         return false;
     }
-    let other = number_without(lookup, n, codes, i);
-    if !sees_at(lookup, other) {
-        return false;
-    }
-    same_at(lookup, n, other)
+    idles_at(lookup, n, class_at(lookup, n), codes, i)
 }
 
-/// Whether an input is present and changes something.
-pub(crate) fn counts_at(lookup: &Lookup, n: u64, codes: &Codes, i: u64) -> bool
+/// Whether an input is present on a snapshot on which no row is enabled, and one is without it.
+pub(crate) fn stops_at(lookup: &Lookup, n: u64, codes: &Codes, i: u64) -> bool
     requires fits { IsTrue (fits lookup.now.machine.now.vars codes.now) }
     requires number { rank lookup.now.machine.now.vars codes.now ≡ n }
+    requires idle { can_fire lookup.now.machine.now codes.now ≡ false }
     requires input { i < length lookup.now.machine.now.inputs }
     ensures { result ≡ counts lookup.now.machine.now i codes.now }
 {
     let _ = lookup.machine.var_count();
     if *codes.get(i) == 0 {
         return false;
-    }
-    if fires_at(lookup, n) {
-        return !unused_at(lookup, n, codes, i);
     }
     let other = number_without(lookup, n, codes, i);
     if !sees_at(lookup, other) {
@@ -167,13 +169,34 @@ pub(crate) fn jammed_at(lookup: &Lookup, n: u64, codes: &Codes) -> bool
     false
 }
 
-/// Whether a snapshot has another outcome with the code 0 of a variable in the place of its own.
-pub(crate) fn differs_at(lookup: &Lookup, n: u64, codes: &Codes, v: u64) -> bool
+/// Whether a snapshot, which has this class, has another outcome with the code 0 of a variable in
+/// the place of its own.
+pub(crate) fn differs_at(lookup: &Lookup, n: u64, class: u64, codes: &Codes, v: u64) -> bool
     requires fits { IsTrue (fits lookup.now.machine.now.vars codes.now) }
     requires number { rank lookup.now.machine.now.vars codes.now ≡ n }
+    requires class { class ≡ class_of lookup.now.results.now lookup.now.keys.now n }
     requires var { v < length lookup.now.machine.now.vars }
     ensures { result ≡ not (is_same (result_codes lookup.now.machine.now codes.now)
         (result_codes lookup.now.machine.now (without codes.now v))) }
 {
-    !same_at(lookup, n, number_without(lookup, n, codes, v))
+    !stays_at(lookup, class, number_without(lookup, n, codes, v))
+}
+
+/// Whether an input that is present changes nothing on a snapshot of this class, on which a row is
+/// enabled.
+pub(crate) fn idles_at(lookup: &Lookup, n: u64, class: u64, codes: &Codes, i: u64) -> bool
+    requires fits { IsTrue (fits lookup.now.machine.now.vars codes.now) }
+    requires number { rank lookup.now.machine.now.vars codes.now ≡ n }
+    requires class { class ≡ class_of lookup.now.results.now lookup.now.keys.now n }
+    requires fires { IsTrue (can_fire lookup.now.machine.now codes.now) }
+    requires input { i < length lookup.now.machine.now.inputs }
+    requires present { IsTrue (is_present i codes.now) }
+    ensures { result ≡ is_unused lookup.now.machine.now i codes.now }
+{
+    let _ = lookup.machine.var_count();
+    let other = number_without(lookup, n, codes, i);
+    if !sees_at(lookup, other) {
+        return false;
+    }
+    stays_at(lookup, class, other)
 }

@@ -1,12 +1,11 @@
-use Rattle.std.proofs.Common.{◌<◌, ℕ, true, false, not, refl, sym, ap, ◌∙◌, subst, arith}
+use Rattle.std.proofs.Common.{◌<◌, ℕ, true, false, refl, sym, ◌∙◌, subst, arith}
 use Rattle.domains.proofs.Ranks.{length_fits, ranks_below}
 use Rattle.domains.specs.Tables.{product}
-use Rattle.table_use.specs.Use.{is_unused, without}
-use Rattle.table_use.proofs.Bools.{and_last}
+use Rattle.table_use.specs.Use.{without}
 use Rattle.table_use.proofs.Judged.{counts_is, unused_is}
 use Rattle.table_use.proofs.Present.{absent, present}
 use Rattle.table_use.proofs.Tests.{fits_without}
-use Rattle.table_use.proofs.lookup.counts_at.Goals as goal
+use Rattle.table_use.proofs.lookup.stops_at.Goals as goal
 
 pub get-requires : goal.get-requires
 get-requires c =
@@ -23,37 +22,20 @@ returns-then-get-eq0 c =
     sym (counts_is m c.args.i s false _ _ _ _
     (absent s c.args.i c.get.result.now c.get.ensures c.if-get-eq0.true) refl refl refl refl)
 
-pub fires_at-requires : goal.fires_at-requires
-fires_at-requires c =
-    let below = ranks_below c.args.lookup.now.machine.now.vars c.args.codes.now c.requires.fits in
-    let number = c.requires.number in
-    omega arith
-
-pub returns-then-fires_at : goal.returns-then-fires_at
-returns-then-fires_at c =
-    let m = c.args.lookup.now.machine.now in
-    let s = c.args.codes.now in
-    ap not c.unused_at.ensures
-    ∙ sym (counts_is m c.args.i s true (is_unused m c.args.i s) true _ _
-    (present s c.args.i c.get.result.now c.get.ensures c.if-get-eq0.false) refl
-    (sym (c.fires_at.ensures s c.requires.fits c.requires.number) ∙ c.if-fires_at.true) refl refl
-    ∙ and_last (not (is_unused m c.args.i s)))
-
 pub returns-then-not-sees_at : goal.returns-then-not-sees_at
 returns-then-not-sees_at c =
     let m = c.args.lookup.now.machine.now in
     let s = c.args.codes.now in
     let t = without s c.args.i in
     let there = present s c.args.i c.get.result.now c.get.ensures c.if-get-eq0.false in
-    let idle = sym (c.fires_at.ensures s c.requires.fits c.requires.number)
-    ∙ c.if-fires_at.false in
     sym (counts_is m c.args.i s true false false false _ there
-    (unused_is m c.args.i s true false _ _ c.requires.input there idle refl refl) idle
+    (unused_is m c.args.i s true false _ _ c.requires.input there c.requires.idle refl refl)
+    c.requires.idle
     (sym (c.sees_at.ensures t (fits_without m.vars s c.args.i c.requires.fits)
     (sym c.number_without-other.ensures)) ∙ c.if-not-sees_at.true) refl)
 
-pub fires_at-requires-2 : goal.fires_at-requires-2
-fires_at-requires-2 c =
+pub fires_at-requires : goal.fires_at-requires
+fires_at-requires c =
     let vars = c.args.lookup.now.machine.now.vars in
     subst (λ (n : ℕ). n < product vars) (sym c.number_without-other.ensures)
     (ranks_below vars (without c.args.codes.now c.args.i)
@@ -66,10 +48,9 @@ returns c =
     let t = without s c.args.i in
     let fit = fits_without m.vars s c.args.i c.requires.fits in
     let there = present s c.args.i c.get.result.now c.get.ensures c.if-get-eq0.false in
-    let idle = sym (c.fires_at.ensures s c.requires.fits c.requires.number)
-    ∙ c.if-fires_at.false in
-    c.fires_at-2.ensures t fit (sym c.number_without-other.ensures)
+    c.fires_at.ensures t fit (sym c.number_without-other.ensures)
     ∙ sym (counts_is m c.args.i s true false false true _ there
-    (unused_is m c.args.i s true false _ _ c.requires.input there idle refl refl) idle
+    (unused_is m c.args.i s true false _ _ c.requires.input there c.requires.idle refl refl)
+    c.requires.idle
     (sym (c.sees_at.ensures t fit (sym c.number_without-other.ensures))
     ∙ c.if-not-sees_at.false) refl)

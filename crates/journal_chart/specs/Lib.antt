@@ -3,3 +3,4 @@ pub mod Columns
 pub mod Labels
 pub mod Notes
 pub mod Chart
+pub mod inner

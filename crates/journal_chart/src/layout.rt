@@ -1,5 +1,5 @@
 // Which entries a chart shows, and where its columns stand.
-ghost use Rattle.std.specs.Prelude.{◌≡◌, ◌<◌, ◌++◌, ◌∷◌, ℕ, List, [], filter, filter_map, length, map, max, true, slice_get, slice_set, Some, IfOk, IfSome, IfNone, OnOk, IsTrue};
+ghost use Rattle.std.specs.Prelude.{◌≡◌, ◌<◌, ◌^◌, ◌++◌, ◌∷◌, ℕ, List, [], filter, filter_map, length, map, max, true, slice_get, slice_set, Some, IfOk, IfSome, IfNone, OnOk, IsTrue};
 ghost use Rattle.std.specs.List.{All};
 ghost use Rattle.polis_base.specs.Lists.{upto};
 ghost use Rattle.transition_table.specs.NetworkNames.{machine_name};
@@ -96,8 +96,9 @@ fn columns_of(alloc: Global, net: &Network, flags: &List<bool>) -> Result<List<u
 // The greatest length of the names of the columns' parties.
 fn longest_name(net: &Network, machines: &List<u64>) -> u64
     requires { All (λ m. m < length net.now.machines) machines.now }
-    ensures { (entries : List Entry) → machines.now ≡ columns net.now entries
+    ensures is { (entries : List Entry) → machines.now ≡ columns net.now entries
         → result ≡ greatest (party_names net.now entries) }
+    ensures small { result < 2 ^ 63 }
 {
     let mut longest = b"env".len() as u64;
     for m in machines.as_slice() {
@@ -109,7 +110,8 @@ fn longest_name(net: &Network, machines: &List<u64>) -> u64
 // The length of what an entry delivers, 0 where it is a reaction. The bytes are room to write it.
 fn item_length(net: &Network, entry: &Entry, item: &mut Bytes) -> Result<u64, NoMemory>
     requires { FitsNetwork net.now entry.now }
-    ensures { IfOk result (λ n. n ≡ greatest (filter_map (item_of net.now) (entry.now ∷ []))) }
+    ensures is { IfOk result (λ n. n ≡ greatest (filter_map (item_of net.now) (entry.now ∷ []))) }
+    ensures small { IfOk result (λ n. n < 2 ^ 63) }
 {
     item.clear();
     if let Entry::Dep { event, code, .. } = entry {
@@ -121,7 +123,8 @@ fn item_length(net: &Network, entry: &Entry, item: &mut Bytes) -> Result<u64, No
 // The greatest length of what the entries deliver.
 fn longest_item(alloc: Global, net: &Network, entries: &[Entry]) -> Result<u64, NoMemory>
     requires { IsJournal net.now entries.now }
-    ensures { IfOk result (λ n. n ≡ greatest (filter_map (item_of net.now) entries.now)) }
+    ensures is { IfOk result (λ n. n ≡ greatest (filter_map (item_of net.now) entries.now)) }
+    ensures small { IfOk result (λ n. n < 2 ^ 63) }
 {
     let mut item = Bytes::new(alloc);
     let mut longest = 0;

@@ -1,0 +1,3 @@
+pub mod JoinedTexts
+pub mod Columns
+pub mod ItemsLeft

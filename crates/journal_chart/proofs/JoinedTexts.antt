@@ -1,8 +1,9 @@
 -- Texts that are put together, and the spaces at their ends.
-use Rattle.std.proofs.Common.{◌≡◌, ℕ, zero, suc, ◌+◌, ◌<◌, Bool, true, false, cond, ◌==◌, nat_lt, ◌&&◌, List, [], ◌∷◌, ◌++◌, length, take, flat_map, slice_get, Some, refl, sym, ap, ◌∙◌, arith}
+use Rattle.std.proofs.Common.{◌≡◌, ℕ, zero, suc, ◌+◌, ◌<◌, ◌≤◌, subst, slice_index, Bool, true, false, cond, ◌==◌, nat_lt, ◌&&◌, List, [], ◌∷◌, ◌++◌, length, take, flat_map, slice_get, Some, refl, sym, ap, ◌∙◌, arith}
 use Rattle.std.specs.List.{list_all}
-use Rattle.std.proofs.lemmas.Bool.{ne_eqb}
+use Rattle.std.proofs.lemmas.Bool.{lt-ltb}
 use Rattle.std.proofs.lemmas.List.{append-nil, append_assoc}
+use Rattle.std.proofs.lemmas.Option.{slice_get-get_or}
 use Rattle.polis_base.proofs.Places.{flat_map_push, take_next}
 use Rattle.journal_chart.specs.Labels.{joined}
 use Rattle.journal_chart.specs.Pictures.{is_space, trimmed}
@@ -15,7 +16,13 @@ joined_push between [] text = append-nil text
 joined_push between (first ∷ texts) text =
     ap (λ (l : List ℕ). first ++ l) (flat_map_push (λ (next : List ℕ). between ++ next) texts text)
     ∙ grouped first (flat_map (λ (next : List ℕ). between ++ next) texts) between text
+    ∙ ap
+    (λ (b : Bool). first ++ flat_map (λ (next : List ℕ). between ++ next) texts
+    ++ cond b between [] ++ text) (sym (lt-ltb 0 (suc (length texts)) (some (length texts))))
   where
+    some : (n : ℕ) → 0 < suc n
+    some n = omega arith
+
     grouped : (a b c d : List ℕ) → a ++ (b ++ (c ++ d)) ≡ a ++ b ++ c ++ d
     grouped a b c d = simp append_assoc refl
 
@@ -47,16 +54,18 @@ joined_more between texts k text old now led new at was leads is =
 
 -- ---- the spaces at the end
 
-all_spaces : (text : List ℕ) → list_all is_space (text ++ 32 ∷ []) ≡ list_all is_space text
-all_spaces [] = refl
-all_spaces (c ∷ text) = ap (λ (b : Bool). is_space c && b) (all_spaces text)
+all_spaces : (text : List ℕ) (c : ℕ) → is_space c ≡ true
+    → list_all is_space (text ++ c ∷ []) ≡ list_all is_space text
+all_spaces [] c space = rw space refl
+all_spaces (d ∷ text) c space = ap (λ (b : Bool). is_space d && b) (all_spaces text c space)
 
-trimmed_space : (text : List ℕ) → trimmed (text ++ 32 ∷ []) ≡ trimmed text
-trimmed_space [] = refl
-trimmed_space (c ∷ text) =
-    ap (λ (b : Bool). cond (is_space c && b) [] (c ∷ trimmed (text ++ 32 ∷ []))) (all_spaces text)
-    ∙ ap (λ (l : List ℕ). cond (is_space c && list_all is_space text) [] (c ∷ l))
-    (trimmed_space text)
+trimmed_space : (text : List ℕ) (c : ℕ) → is_space c ≡ true → trimmed (text ++ c ∷ []) ≡ trimmed text
+trimmed_space [] c space = rw space refl
+trimmed_space (d ∷ text) c space =
+    ap (λ (b : Bool). cond (is_space d && b) [] (d ∷ trimmed (text ++ c ∷ [])))
+    (all_spaces text c space)
+    ∙ ap (λ (l : List ℕ). cond (is_space d && list_all is_space text) [] (d ∷ l))
+    (trimmed_space text c space)
 
 not_all : (text : List ℕ) (c : ℕ) → is_space c ≡ false
     → list_all is_space (text ++ c ∷ []) ≡ false
@@ -75,17 +84,39 @@ trimmed_other (d ∷ text) c other =
     ap (λ (b : Bool). cond b [] (d ∷ trimmed (text ++ c ∷ []))) (not_all (d ∷ text) c other)
     ∙ ap (λ (l : List ℕ). d ∷ l) (trimmed_other text c other)
 
--- a space more
-pub stays : (bytes : List ℕ) (k end c : ℕ) → slice_get bytes k ≡ Some c → c ≡ 32
-    → take end bytes ≡ trimmed (take k bytes) → take end bytes ≡ trimmed (take (k + 1) bytes)
-stays bytes k end c at is was =
-    was ∙ sym (trimmed_space (take k bytes))
-    ∙ ap (λ (n : ℕ). trimmed (take k bytes ++ n ∷ [])) (sym is)
-    ∙ ap trimmed (sym (take_next bytes k c at))
+-- one byte more
+pub ends_more : (bytes : List ℕ) (k end new : ℕ) → k < length bytes → end ≤ k
+    → take end bytes ≡ trimmed (take k bytes)
+    → new ≡ cond (is_space (slice_index bytes k)) end (k + 1)
+    → (new ≤ k + 1) × (take new bytes ≡ trimmed (take (k + 1) bytes))
+ends_more bytes k end new below low was is =
+    cases (is_space (slice_index bytes k)) refl
+  where
+    c : ℕ
+    c = slice_index bytes k
 
--- another byte more
-pub moves : (bytes : List ℕ) (k c : ℕ) → slice_get bytes k ≡ Some c → (c ≡ 32 → ⊥)
-    → take (k + 1) bytes ≡ trimmed (take (k + 1) bytes)
-moves bytes k c at other =
-    take_next bytes k c at ∙ sym (trimmed_other (take k bytes) c (ne_eqb c 32 other))
-    ∙ ap trimmed (sym (take_next bytes k c at))
+    at : slice_get bytes k ≡ Some c
+    at = slice_get-get_or bytes k 0 below
+
+    cases : (b : Bool) → is_space c ≡ b
+        → (new ≤ k + 1) × (take new bytes ≡ trimmed (take (k + 1) bytes))
+    cases true space =
+        let same : new ≡ end = is ∙ ap (λ (b : Bool). cond b end (k + 1)) space in (
+          subst (λ (n : ℕ). n ≤ k + 1) (sym same) (up end k low),
+          ap (λ (n : ℕ). take n bytes) same ∙ was
+              ∙ sym (trimmed_space (take k bytes) c space)
+              ∙ ap trimmed (sym (take_next bytes k c at)),
+        )
+    cases false other =
+        let same : new ≡ k + 1 = is ∙ ap (λ (b : Bool). cond b end (k + 1)) other in (
+          subst (λ (n : ℕ). n ≤ k + 1) (sym same) (self k),
+          ap (λ (n : ℕ). take n bytes) same ∙ take_next bytes k c at
+              ∙ sym (trimmed_other (take k bytes) c other)
+              ∙ ap trimmed (sym (take_next bytes k c at)),
+        )
+
+    self : (k : ℕ) → k + 1 ≤ k + 1
+    self k = omega arith
+
+    up : (end k : ℕ) → end ≤ k → end ≤ k + 1
+    up end k low = omega arith

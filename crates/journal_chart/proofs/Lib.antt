@@ -1,3 +1,5 @@
 pub mod JoinedTexts
 pub mod Columns
 pub mod ItemsLeft
+pub mod MarksAfter
+pub mod UsedInputs

@@ -153,6 +153,42 @@ fn push_lines(
     entries: &[Entry],
     layout: &Layout,
     marks: &List<u64>,
+    tables: &Tables,
+    memos: &mut Memos,
+    into: &mut Bytes,
+) -> Result<(), NoMemory>
+    requires layout { IsLayout net.now entries.now layout.now }
+    requires journal { IsJournal net.now j.now }
+    requires entries { (k : ℕ) (x : Entry) → slice_get entries.now k ≡ Some x
+        → slice_get j.now (from + k) ≡ Some x }
+    requires marks { (k : ℕ) (x : Entry) → slice_get entries.now k ≡ Some x
+        → slice_get marks.now (from + k) ≡ Some (loss_mark_at net.now j.now (from + k)) }
+    requires tables { AreTablesOf net.now tables.now }
+    requires memos { AreMemos net.now tables.now memos.old.items }
+    ensures { OnOk result (into.new ≡ into.old
+        ++ numbered (chart_line net.now j.now entries.now) from entries.now) }
+{
+    let _count = j.len();
+    for k in 0..entries.len() as u64 {
+        let p = from + k;
+        let entry = &entries[k as usize];
+        let mark = *marks.get(p);
+        push_entry(
+            alloc, net, entries, layout, tables, memos, p, entry, mark, into,
+        )?;
+    }
+    Ok(())
+}
+
+// Appends the lines of the entries that are shown, by the tables of the network.
+fn push_shown(
+    alloc: Global,
+    net: &Network,
+    j: &Journal,
+    from: u64,
+    entries: &[Entry],
+    layout: &Layout,
+    marks: &List<u64>,
     into: &mut Bytes,
 ) -> Result<(), NoMemory>
     requires layout { IsLayout net.now entries.now layout.now }
@@ -166,23 +202,9 @@ fn push_lines(
 {
     let tables = tables_of(alloc, net)?;
     let mut memos = memos_of(alloc, net, &tables)?;
-    let _count = j.len();
-    for k in 0..entries.len() as u64 {
-        let p = from + k;
-        push_entry(
-            alloc,
-            net,
-            entries,
-            layout,
-            &tables,
-            &mut memos,
-            p,
-            &entries[k as usize],
-            *marks.get(p),
-            into,
-        )?;
-    }
-    Ok(())
+    push_lines(
+        alloc, net, j, from, entries, layout, marks, &tables, &mut memos, into,
+    )
 }
 
 // Appends the chart.
@@ -200,7 +222,7 @@ fn push_all(
     let entries = shown(j.as_slice(), from, to);
     let layout = begin(alloc, net, entries, into)?;
     let marks = loss_marks(alloc, net, j, to.min(j.len()))?;
-    push_lines(alloc, net, j, from, entries, &layout, &marks, into)
+    push_shown(alloc, net, j, from, entries, &layout, &marks, into)
 }
 
 /// Appends the chart of the entries of a journal from one place up to another: a line an entry, and

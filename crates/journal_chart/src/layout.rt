@@ -1,16 +1,14 @@
 // Which entries a chart shows, and where its columns stand.
-ghost use Rattle.std.specs.Prelude.{◌≡◌, ◌<◌, ◌^◌, ◌++◌, ◌∷◌, ℕ, List, [], filter, filter_map, length, map, max, true, slice_get, slice_set, Some, IfOk, IfSome, IfNone, OnOk, IsTrue};
-ghost use Rattle.std.specs.List.{All};
+ghost use Rattle.std.specs.Prelude.{◌≡◌, ◌<◌, ◌^◌, ◌++◌, ◌∷◌, ℕ, List, [], codes, cond, filter_map, length, map, max, true, slice_set, IfOk, OnOk, IsTrue};
 ghost use Rattle.polis_base.specs.Lists.{upto};
-ghost use Rattle.transition_table.specs.NetworkNames.{machine_name};
 ghost use Rattle.transition_table.specs.declared.decl.Party.TheVariants.{Env, Machine as Sender};
 ghost use Rattle.journals.specs.Journals.{FitsNetwork, IsJournal, is_party};
 ghost use Rattle.journals.specs.declared.entry.Entry.{Entry};
 ghost use Rattle.journal_chart.specs.Chart.{head_line};
 ghost use Rattle.journal_chart.specs.Columns.{columns, greatest, has_column, item_of, party_names, shown as shown_ones, width_of};
 ghost use Rattle.journal_chart.specs.Labels.{axis_of as party_axis};
-ghost use Rattle.journal_chart.specs.Pictures.{cells};
-ghost use Rattle.journal_chart.specs.inner.Layouts.{IsLayout};
+ghost use Rattle.journal_chart.specs.Pictures.{cell, cells};
+ghost use Rattle.journal_chart.specs.inner.Layouts.{IsLayout, sender};
 
 use crate::pictures::push_cell;
 use crate::pieces::{first_ones, ones_after};
@@ -39,11 +37,22 @@ pub(crate) fn shown(entries: &[Entry], from: u64, to: u64) -> &[Entry]
     first_ones(ones_after(entries, from), to.saturating_sub(from))
 }
 
+// Who sends what an entry delivers; a reaction has no sender but the environment.
+fn sender_of(entry: &Entry) -> Party
+    ensures { result ≡ sender entry.now }
+{
+    match entry {
+        Entry::Dep { from, .. } => *from,
+        Entry::Rea { .. } => Party::Env,
+    }
+}
+
 // Notes that a sender has a column, where it is a machine.
 fn note_sender(from: Party, flags: &mut List<bool>)
     requires { (m : ℕ) → from ≡ Sender m → m < length flags.old }
     ensures env { from ≡ Env → flags.new ≡ flags.old }
     ensures machine { (m : ℕ) → from ≡ Sender m → flags.new ≡ slice_set flags.old m true }
+    ensures many { length flags.new ≡ length flags.old }
 {
     if let Party::Machine(m) = from {
         flags.set(m as u64, true);
@@ -58,9 +67,7 @@ fn note_entry(net: &Network, entry: &Entry, flags: &mut List<bool>)
         → flags.old ≡ map (has_column before) (upto (length net.now.machines))
         → flags.new ≡ map (has_column (before ++ entry.now ∷ [])) (upto (length net.now.machines)) }
 {
-    if let Entry::Dep { from, .. } = entry {
-        note_sender(*from, flags);
-    }
+    note_sender(sender_of(entry), flags);
     flags.set(entry.machine() as u64, true);
 }
 
@@ -77,32 +84,52 @@ fn flags_of(alloc: Global, net: &Network, entries: &[Entry]) -> Result<List<bool
     Ok(flags)
 }
 
+// Puts a number at the end, where it is wanted.
+fn push_if(wanted: bool, m: u64, machines: &mut List<u64>) -> Result<(), NoMemory>
+    ensures { OnOk result (machines.new ≡ machines.old ++ cond wanted (m ∷ []) []) }
+{
+    if wanted {
+        machines.push(m)?;
+    }
+    Ok(())
+}
+
 // The machines that have a column.
-fn columns_of(alloc: Global, net: &Network, flags: &List<bool>) -> Result<List<u64>, NoMemory>
-    requires { length flags.now ≡ length net.now.machines }
-    ensures { IfOk result (λ machines. (entries : List Entry)
-        → flags.now ≡ map (has_column entries) (upto (length net.now.machines))
-        → machines ≡ columns net.now entries) }
+fn columns_of(
+    alloc: Global,
+    net: &Network,
+    entries: &[Entry],
+    flags: &List<bool>,
+) -> Result<List<u64>, NoMemory>
+    requires { flags.now ≡ map (has_column entries.now) (upto (length net.now.machines)) }
+    ensures { IfOk result (λ machines. machines ≡ columns net.now entries.now) }
 {
     let mut machines = List::new(alloc);
     for m in 0..net.machines.len() {
-        if *flags.get(m) {
-            machines.push(m)?;
-        }
+        push_if(*flags.get(m), m, &mut machines)?;
     }
     Ok(machines)
 }
 
+// The greater of a length and that of a text.
+fn longer(longest: u64, text: &[u8]) -> u64
+    requires { longest < 2 ^ 63 }
+    ensures is { result ≡ max longest (length text.now) }
+    ensures small { result < 2 ^ 63 }
+{
+    longest.max(text.len() as u64)
+}
+
 // The greatest length of the names of the columns' parties.
-fn longest_name(net: &Network, machines: &List<u64>) -> u64
-    requires { All (λ m. m < length net.now.machines) machines.now }
-    ensures is { (entries : List Entry) → machines.now ≡ columns net.now entries
-        → result ≡ greatest (party_names net.now entries) }
+fn longest_name(net: &Network, entries: &[Entry], machines: &List<u64>) -> u64
+    requires { machines.now ≡ columns net.now entries.now }
+    ensures is { result ≡ greatest (party_names net.now entries.now) }
     ensures small { result < 2 ^ 63 }
 {
     let mut longest = b"env".len() as u64;
-    for m in machines.as_slice() {
-        longest = longest.max(net.machines.get(*m).name.bytes().len() as u64);
+    for k in 0..machines.len() {
+        let machine = net.machines.get(*machines.get(k));
+        longest = longer(longest, machine.name.bytes());
     }
     longest
 }
@@ -129,9 +156,20 @@ fn longest_item(alloc: Global, net: &Network, entries: &[Entry]) -> Result<u64, 
     let mut item = Bytes::new(alloc);
     let mut longest = 0;
     for entry in entries {
-        longest = item_length(net, entry, &mut item)?.max(longest);
+        let count = item_length(net, entry, &mut item)?;
+        longest = longest.max(count);
     }
     Ok(longest)
+}
+
+// Appends a column with nothing but its axis, where it is wanted.
+fn push_bare_if(wanted: bool, width: u64, bare: &mut Bytes) -> Result<(), NoMemory>
+    ensures { OnOk result (bare.new ≡ bare.old ++ cond wanted (cell width (codes "|")) []) }
+{
+    if wanted {
+        push_cell(width, b"|", bare)?;
+    }
+    Ok(())
 }
 
 // The columns, where these machines have one, and each column has so many bytes.
@@ -151,9 +189,7 @@ fn layout_of(
     push_cell(width, b"|", &mut bare)?;
     for m in 0..net.machines.len() {
         places.push(bare.as_slice().len() as u64 + width / 2)?;
-        if *flags.get(m) {
-            push_cell(width, b"|", &mut bare)?;
-        }
+        push_bare_if(*flags.get(m), width, &mut bare)?;
     }
     Ok(Layout {
         width,
@@ -174,8 +210,9 @@ fn push_names(
     ensures { OnOk result (into.new ≡ into.old ++ cells width (party_names net.now entries.now)) }
 {
     push_cell(width, b"env", into)?;
-    for m in machines.as_slice() {
-        push_cell(width, net.machines.get(*m).name.bytes(), into)?;
+    for k in 0..machines.len() {
+        let machine = net.machines.get(*machines.get(k));
+        push_cell(width, machine.name.bytes(), into)?;
     }
     Ok(())
 }
@@ -211,9 +248,9 @@ pub(crate) fn begin(
     ensures head { OnOk result (into.new ≡ into.old ++ head_line net.now entries.now) }
 {
     let flags = flags_of(alloc, net, entries)?;
-    let machines = columns_of(alloc, net, &flags)?;
+    let machines = columns_of(alloc, net, entries, &flags)?;
     let item = longest_item(alloc, net, entries)?;
-    let width = longest_name(net, &machines).max(item) + 6;
+    let width = longest_name(net, entries, &machines).max(item) + 6;
     push_head(net, entries, &machines, width, into)?;
     let layout = layout_of(alloc, net, entries, &flags, width)?;
     Ok(layout)

@@ -1,10 +1,10 @@
 // Texts that lines are made of.
-ghost use Rattle.std.specs.Prelude.{◌≡◌, ◌≤◌, ◌++◌, [], cond, length, replicate, take, IfOk, OnOk};
+ghost use Rattle.std.specs.Prelude.{◌≡◌, ◌<◌, ◌+◌, ◌^◌, ◌++◌, [], cond, replicate, take, IfOk, OnOk};
 ghost use Rattle.journal_text.specs.Texts.{spaced};
 ghost use Rattle.journal_chart.specs.Chart.{place_text};
 ghost use Rattle.journal_chart.specs.Labels.{joined};
 ghost use Rattle.journal_chart.specs.Notes.{notes_text};
-ghost use Rattle.journal_chart.specs.Pictures.{trimmed};
+ghost use Rattle.journal_chart.specs.Pictures.{is_space, trimmed};
 ghost use Rattle.journal_chart.specs.inner.Lines.{line_of};
 
 use crate::pieces::first_ones;
@@ -58,15 +58,21 @@ pub(crate) fn push_spaced(texts: &Texts, into: &mut Bytes) -> Result<(), NoMemor
     push_joined(b" ", texts, into)
 }
 
+// How many bytes stand before the spaces at the end, one byte more.
+fn end_after(byte: u8, k: usize, end: usize) -> usize
+    requires { k + 1 < 2 ^ 64 }
+    ensures { result ≡ cond (is_space byte) end (k + 1) }
+{
+    if byte == b' ' { end } else { k + 1 }
+}
+
 // How many bytes stand before the spaces at the end.
 fn trimmed_length(bytes: &[u8]) -> usize
     ensures { take result bytes.now ≡ trimmed bytes.now }
 {
     let mut end = 0;
     for k in 0..bytes.len() {
-        if bytes[k] != b' ' {
-            end = k + 1;
-        }
+        end = end_after(bytes[k], k, end);
     }
     end
 }

@@ -4,7 +4,6 @@ use Rattle.journal_chart.specs.Pictures.{cells}
 use Rattle.journal_chart.proofs.layout.push_names.Given as goal
 
 -- the names before this one are written
-abbrev pub invariant-loop-m : goal.invariant-loop-m
-invariant-loop-m l =
-    l.into ≡ l.fn.into
-    ++ cells l.width (codes "env" ∷ map (machine_name l.net) (take l.m-index l.machines))
+abbrev pub invariant-loop-k : goal.invariant-loop-k
+invariant-loop-k l =
+    l.into ≡ l.fn.into ++ cells l.width (codes "env" ∷ map (machine_name l.net) (take l.k l.machines))

@@ -153,20 +153,23 @@ cell_is width text =
     low : (w n : ℕ) → w / 2 - n ≤ w
     low w n = omega arith
 
+-- of three parts
+length_parts : (a b : List ℕ) (c : ℕ) → length (a ++ c ∷ [] ++ b) ≡ length a + 1 + length b
+length_parts a b c =
+    length-append (a ++ c ∷ []) b ∙ ap (λ (k : ℕ). k + length b) (length-append a (c ∷ []))
+
 length_cell : (width : ℕ) (c : ℕ) → 1 ≤ width → length (cell width (c ∷ [])) ≡ width
 length_cell width c some =
+    let n : ℕ = width / 2 - 1 / 2 in
+    let front : List ℕ = replicate n 32 in
+    let back : List ℕ = replicate (width - (n + 1)) 32 in
     ap (λ (l : List ℕ). length l) (cell_is width (c ∷ []))
-    ∙ length-append (replicate (width / 2 - 1 / 2) 32 ++ c ∷ [])
-    (replicate (width - (width / 2 - 1 / 2 + 1)) 32)
-    ∙ ap (λ (n : ℕ). n + length (replicate (width - (width / 2 - 1 / 2 + 1)) 32))
-    (length-append (replicate (width / 2 - 1 / 2) 32) (c ∷ []))
-    ∙ ap (λ (n : ℕ). n + 1 + length (replicate (width - (width / 2 - 1 / 2 + 1)) 32))
-    (length-replicate (width / 2 - 1 / 2) 32)
-    ∙ ap (λ (n : ℕ). width / 2 - 1 / 2 + 1 + n)
-    (length-replicate (width - (width / 2 - 1 / 2 + 1)) 32)
+    ∙ length_parts front back c
+    ∙ ap (λ (k : ℕ). k + 1 + length back) (length-replicate n 32)
+    ∙ ap (λ (k : ℕ). n + 1 + k) (length-replicate (width - (n + 1)) 32)
     ∙ filled width some
   where
-    filled : (w : ℕ) → 1 ≤ w → w / 2 - 0 + 1 + (w - (w / 2 - 0 + 1)) ≡ w
+    filled : (w : ℕ) → 1 ≤ w → w / 2 - 1 / 2 + 1 + (w - (w / 2 - 1 / 2 + 1)) ≡ w
     filled w some = omega arith
 
 pub length_cells : (width c n : ℕ) → 1 ≤ width

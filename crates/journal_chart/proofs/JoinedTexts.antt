@@ -84,39 +84,35 @@ trimmed_other (d ∷ text) c other =
     ap (λ (b : Bool). cond b [] (d ∷ trimmed (text ++ c ∷ []))) (not_all (d ∷ text) c other)
     ∙ ap (λ (l : List ℕ). d ∷ l) (trimmed_other text c other)
 
+still : (end k : ℕ) → end ≤ k → end ≤ k + 1
+still end k low = omega arith
+
+itself : (k : ℕ) → k + 1 ≤ k + 1
+itself k = omega arith
+
+ends_by : (bytes : List ℕ) (k end new c : ℕ) (b : Bool) → slice_get bytes k ≡ Some c → end ≤ k
+    → take end bytes ≡ trimmed (take k bytes)
+    → is_space c ≡ b
+    → new ≡ cond b end (k + 1)
+    → (new ≤ k + 1) × (take new bytes ≡ trimmed (take (k + 1) bytes))
+ends_by bytes k end new c true at low was space is = (
+  subst (λ (n : ℕ). n ≤ k + 1) (sym is) (still end k low),
+  ap (λ (n : ℕ). take n bytes) is ∙ was
+      ∙ sym (trimmed_space (take k bytes) c space)
+      ∙ ap trimmed (sym (take_next bytes k c at)),
+)
+ends_by bytes k end new c false at low was other is = (
+  subst (λ (n : ℕ). n ≤ k + 1) (sym is) (itself k),
+  ap (λ (n : ℕ). take n bytes) is ∙ take_next bytes k c at
+      ∙ sym (trimmed_other (take k bytes) c other)
+      ∙ ap trimmed (sym (take_next bytes k c at)),
+)
+
 -- one byte more
 pub ends_more : (bytes : List ℕ) (k end new : ℕ) → k < length bytes → end ≤ k
     → take end bytes ≡ trimmed (take k bytes)
     → new ≡ cond (is_space (slice_index bytes k)) end (k + 1)
     → (new ≤ k + 1) × (take new bytes ≡ trimmed (take (k + 1) bytes))
 ends_more bytes k end new below low was is =
-    cases (is_space (slice_index bytes k)) refl
-  where
-    c : ℕ
-    c = slice_index bytes k
-
-    at : slice_get bytes k ≡ Some c
-    at = slice_get-get_or bytes k 0 below
-
-    cases : (b : Bool) → is_space c ≡ b
-        → (new ≤ k + 1) × (take new bytes ≡ trimmed (take (k + 1) bytes))
-    cases true space =
-        let same : new ≡ end = is ∙ ap (λ (b : Bool). cond b end (k + 1)) space in (
-          subst (λ (n : ℕ). n ≤ k + 1) (sym same) (up end k low),
-          ap (λ (n : ℕ). take n bytes) same ∙ was
-              ∙ sym (trimmed_space (take k bytes) c space)
-              ∙ ap trimmed (sym (take_next bytes k c at)),
-        )
-    cases false other =
-        let same : new ≡ k + 1 = is ∙ ap (λ (b : Bool). cond b end (k + 1)) other in (
-          subst (λ (n : ℕ). n ≤ k + 1) (sym same) (self k),
-          ap (λ (n : ℕ). take n bytes) same ∙ take_next bytes k c at
-              ∙ sym (trimmed_other (take k bytes) c other)
-              ∙ ap trimmed (sym (take_next bytes k c at)),
-        )
-
-    self : (k : ℕ) → k + 1 ≤ k + 1
-    self k = omega arith
-
-    up : (end k : ℕ) → end ≤ k → end ≤ k + 1
-    up end k low = omega arith
+    ends_by bytes k end new (slice_index bytes k) (is_space (slice_index bytes k))
+    (slice_get-get_or bytes k 0 below) low was refl is

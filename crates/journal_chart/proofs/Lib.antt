@@ -3,3 +3,4 @@ pub mod Columns
 pub mod ItemsLeft
 pub mod MarksAfter
 pub mod UsedInputs
+pub mod InputsAlone

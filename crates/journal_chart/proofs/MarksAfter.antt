@@ -1,7 +1,7 @@
 -- The marks of buffers, one entry more.
 use Rattle.std.proofs.Common.{◌≡◌, ℕ, zero, suc, ◌+◌, ◌-◌, ◌<◌, ◌≤◌, Bool, true, false, cond, not, ◌==◌, ◌&&◌, List, [], ◌∷◌, ◌++◌, map, length, replicate, take, drop, slice_get, slice_set, Option, Some, refl, sym, ap, ◌∙◌, subst, arith, get_or, set, codes, decimal}
 use Rattle.std.specs.Option.{option_map_or}
-use Rattle.std.proofs.lemmas.Bool.{eq-eqb, ne_eqb, eqb-eq}
+use Rattle.std.proofs.lemmas.Bool.{eq-eqb, eqb-true, ne_eqb}
 use Rattle.std.proofs.lemmas.List.{append_assoc, append-nil, length-map, length_push}
 use Rattle.std.proofs.lemmas.Option.{get_or_from_slice_get}
 use Rattle.polis_base.specs.Lists.{upto, last_of, places_from, places_where}
@@ -90,22 +90,22 @@ places_push n p [] x =
   where
     none : (n : ℕ) → n ≡ n + 0
     none n = omega arith
-places_push n p (y ∷ xs) x = cases (p y)
+places_push n p (y ∷ xs) x = placed (p y) n (length xs) (p x)
+    (places_from (n + 1) p (xs ++ x ∷ [])) (places_from (n + 1) p xs) (places_push (n + 1) p xs x)
   where
-    moved : (n k : ℕ) → n + 1 + k ≡ n + suc k
-    moved n k = omega arith
+    placed : (b : Bool) (n k : ℕ) (t : Bool) (more rest : List ℕ)
+        → more ≡ rest ++ cond t (n + 1 + k ∷ []) []
+        → cond b (n ∷ more) more ≡ cond b (n ∷ rest) rest ++ cond t (n + suc k ∷ []) []
+    placed b n k t more rest is =
+        both b (is ∙ ap (λ (i : ℕ). rest ++ cond t (i ∷ []) []) (moved n k))
+      where
+        moved : (n k : ℕ) → n + 1 + k ≡ n + suc k
+        moved n k = omega arith
 
-    rest : places_from (n + 1) p (xs ++ x ∷ [])
-        ≡ places_from (n + 1) p xs ++ cond (p x) (n + suc (length xs) ∷ []) []
-    rest = places_push (n + 1) p xs x
-        ∙ ap (λ (k : ℕ). places_from (n + 1) p xs ++ cond (p x) (k ∷ []) []) (moved n (length xs))
-
-    cases : (b : Bool)
-        → cond b (n ∷ places_from (n + 1) p (xs ++ x ∷ [])) (places_from (n + 1) p (xs ++ x ∷ []))
-        ≡ cond b (n ∷ places_from (n + 1) p xs) (places_from (n + 1) p xs)
-        ++ cond (p x) (n + suc (length xs) ∷ []) []
-    cases true = ap (λ (l : List ℕ). n ∷ l) rest
-    cases false = rest
+        both : (b : Bool) → more ≡ rest ++ cond t (n + suc k ∷ []) []
+            → cond b (n ∷ more) more ≡ cond b (n ∷ rest) rest ++ cond t (n + suc k ∷ []) []
+        both true e = ap (λ (l : List ℕ). n ∷ l) e
+        both false e = e
 
 last_there : (journal : List Entry) (x : Entry) (m e : ℕ) → is_delivery_of m e x ≡ true
     → last_delivery (journal ++ x ∷ []) m e ≡ length journal
@@ -257,14 +257,17 @@ among_all : (journal : List Entry) (m event : ℕ) (events : List ℕ)
     → mark_among event events (map (mark_of journal m) events)
     ≡ cond (has events event) (mark_of journal m event) 0
 among_all journal m event [] = refl
-among_all journal m event (e ∷ events) = cases (e == event) refl
+among_all journal m event (e ∷ events) =
+    one_more (e == event) refl (among_all journal m event events)
   where
-    cases : (b : Bool) → (e == event) ≡ b
+    one_more : (b : Bool) → (e == event) ≡ b
+        → mark_among event events (map (mark_of journal m) events)
+        ≡ cond (has events event) (mark_of journal m event) 0
         → cond (e == event) (mark_of journal m e)
         (mark_among event events (map (mark_of journal m) events))
         ≡ cond (has (e ∷ events) event) (mark_of journal m event) 0
-    cases true same = rw same (ap (mark_of journal m) (eqb-eq e event same))
-    cases false other = rw other (among_all journal m event events)
+    one_more true same rest = rw same (ap (mark_of journal m) (eqb-true e event same))
+    one_more false other rest = rw other rest
 
 pub mark_lost : (net : Network) (journal : List Entry) (x : Entry)
     → mark_of_loss (inputs_of net (machine_of x)) (row_of net journal (machine_of x)) x

@@ -1,11 +1,10 @@
 // A journal as a chart.
-ghost use Rattle.std.specs.Prelude.{◌≡◌, ◌+◌, ◌∷◌, ◌++◌, ℕ, [], slice_get, Some, IfOk, OnOk, OnErr};
+ghost use Rattle.std.specs.Prelude.{◌≡◌, ◌+◌, ◌++◌, ℕ, slice_get, Some, IfOk, OnOk, OnErr};
 ghost use Rattle.polis_base.specs.Lists.{numbered};
+ghost use Rattle.transition_table.specs.Transitions.{AreDeterministic};
 ghost use Rattle.journals.specs.Journals.{FitsNetwork, IsJournal};
 ghost use Rattle.journals.specs.declared.entry.Entry.{Entry};
 ghost use Rattle.journals.specs.declared.entry.Entry.TheVariants.{Dep, Rea};
-ghost use Rattle.table_use.specs.Coverage.{AreTablesOf, coverages};
-ghost use Rattle.table_use.specs.Memos.{AreMemos};
 ghost use Rattle.journal_chart.specs.Chart.{chart_line, chart_text};
 ghost use Rattle.journal_chart.specs.Columns.{width_of};
 ghost use Rattle.journal_chart.specs.Labels.{picture as picture_of};
@@ -17,12 +16,11 @@ use crate::items::event_text;
 use crate::layout::{Layout, begin, shown};
 use crate::losses::loss_marks;
 use crate::pictures::arrow;
-use crate::reaction::{Reaction, push_reaction, uses_of};
+use crate::reaction::{Reaction, push_reaction};
 use crate::texts::{Texts, push_line};
 use journals::{Entry, Journal};
 use polis_base::{Bytes, List, NoMemory};
 use std::alloc::Global;
-use table_use::{CoverageList, Memos, Tables, memos_of, tables_of};
 use transition_table::{Network, Outcome, Party, Snapshot};
 
 // The notes of a delivery, by the mark of what it overwrites.
@@ -67,7 +65,7 @@ fn push_delivery(
     push_line(p, picture.as_slice(), &notes, into)
 }
 
-// Appends the line of a reaction, which is the entry at place p and uses this of the tables.
+// Appends the line of a reaction, which is the entry at place p.
 fn push_reaction_of(
     alloc: Global,
     net: &Network,
@@ -77,12 +75,11 @@ fn push_reaction_of(
     m: u32,
     snapshot: &Snapshot,
     outcome: &Outcome,
-    uses: &CoverageList,
     into: &mut Bytes,
 ) -> Result<(), NoMemory>
     requires layout { IsLayout net.now entries.now layout.now }
+    requires deterministic { AreDeterministic net.now }
     requires fits { FitsNetwork net.now (Rea m snapshot.now outcome.now) }
-    requires uses { uses.now ≡ coverages net.now (Rea m snapshot.now outcome.now ∷ []) }
     ensures { OnOk result (into.new ≡ into.old
         ++ line_of p (picture_of net.now entries.now (Rea m snapshot.now outcome.now))
         (notes_with net.now (width_of net.now entries.now) 0
@@ -91,13 +88,11 @@ fn push_reaction_of(
     let axis = layout.axis_of(net, entries, Party::Machine(m));
     let r = Reaction {
         net,
-        m,
         machine: net.machines.get(m as u64),
         snapshot,
         outcome,
     };
-    let used = uses.get(m as u64);
-    push_reaction(alloc, &r, p, layout.width, &layout.bare, axis, used, into)
+    push_reaction(alloc, &r, p, layout.width, &layout.bare, axis, into)
 }
 
 // Appends the line of an entry, which stands at place p and overwrites what has this mark.
@@ -106,19 +101,15 @@ fn push_entry(
     net: &Network,
     entries: &[Entry],
     layout: &Layout,
-    tables: &Tables,
-    memos: &mut Memos,
     p: u64,
     entry: &Entry,
     mark: u64,
     into: &mut Bytes,
 ) -> Result<(), NoMemory>
     requires layout { IsLayout net.now entries.now layout.now }
+    requires deterministic { AreDeterministic net.now }
     requires fits { FitsNetwork net.now entry.now }
-    requires tables { AreTablesOf net.now tables.now }
-    requires memos { AreMemos net.now tables.now memos.old.items }
-    ensures memos { OnOk result (AreMemos net.now tables.now memos.new.items) }
-    ensures line { OnOk result (into.new ≡ into.old
+    ensures { OnOk result (into.new ≡ into.old
         ++ line_of p (picture_of net.now entries.now entry.now)
         (notes_with net.now (width_of net.now entries.now) mark entry.now)) }
 {
@@ -135,12 +126,9 @@ fn push_entry(
             machine,
             snapshot,
             outcome,
-        } => {
-            let uses = uses_of(alloc, net, tables, memos, entry)?;
-            push_reaction_of(
-                alloc, net, entries, layout, p, *machine, snapshot, outcome, &uses, into,
-            )
-        }
+        } => push_reaction_of(
+            alloc, net, entries, layout, p, *machine, snapshot, outcome, into,
+        ),
     }
 }
 
@@ -153,18 +141,15 @@ fn push_lines(
     entries: &[Entry],
     layout: &Layout,
     marks: &List<u64>,
-    tables: &Tables,
-    memos: &mut Memos,
     into: &mut Bytes,
 ) -> Result<(), NoMemory>
     requires layout { IsLayout net.now entries.now layout.now }
+    requires deterministic { AreDeterministic net.now }
     requires journal { IsJournal net.now j.now }
     requires entries { (k : ℕ) (x : Entry) → slice_get entries.now k ≡ Some x
         → slice_get j.now (from + k) ≡ Some x }
     requires marks { (k : ℕ) (x : Entry) → slice_get entries.now k ≡ Some x
         → slice_get marks.now (from + k) ≡ Some (loss_mark_at net.now j.now (from + k)) }
-    requires tables { AreTablesOf net.now tables.now }
-    requires memos { AreMemos net.now tables.now memos.old.items }
     ensures { OnOk result (into.new ≡ into.old
         ++ numbered (chart_line net.now j.now entries.now) from entries.now) }
 {
@@ -173,38 +158,9 @@ fn push_lines(
         let p = from + k;
         let entry = &entries[k as usize];
         let mark = *marks.get(p);
-        push_entry(
-            alloc, net, entries, layout, tables, memos, p, entry, mark, into,
-        )?;
+        push_entry(alloc, net, entries, layout, p, entry, mark, into)?;
     }
     Ok(())
-}
-
-// Appends the lines of the entries that are shown, by the tables of the network.
-fn push_shown(
-    alloc: Global,
-    net: &Network,
-    j: &Journal,
-    from: u64,
-    entries: &[Entry],
-    layout: &Layout,
-    marks: &List<u64>,
-    into: &mut Bytes,
-) -> Result<(), NoMemory>
-    requires layout { IsLayout net.now entries.now layout.now }
-    requires journal { IsJournal net.now j.now }
-    requires entries { (k : ℕ) (x : Entry) → slice_get entries.now k ≡ Some x
-        → slice_get j.now (from + k) ≡ Some x }
-    requires marks { (k : ℕ) (x : Entry) → slice_get entries.now k ≡ Some x
-        → slice_get marks.now (from + k) ≡ Some (loss_mark_at net.now j.now (from + k)) }
-    ensures { OnOk result (into.new ≡ into.old
-        ++ numbered (chart_line net.now j.now entries.now) from entries.now) }
-{
-    let tables = tables_of(alloc, net)?;
-    let mut memos = memos_of(alloc, net, &tables)?;
-    push_lines(
-        alloc, net, j, from, entries, layout, marks, &tables, &mut memos, into,
-    )
 }
 
 // Appends the chart.
@@ -216,13 +172,14 @@ fn push_all(
     to: u64,
     into: &mut Bytes,
 ) -> Result<(), NoMemory>
-    requires { IsJournal net.now j.now }
+    requires fits { IsJournal net.now j.now }
+    requires deterministic { AreDeterministic net.now }
     ensures { OnOk result (into.new ≡ into.old ++ chart_text net.now j.now from to) }
 {
     let entries = shown(j.as_slice(), from, to);
     let layout = begin(alloc, net, entries, into)?;
     let marks = loss_marks(alloc, net, j, to.min(j.len()))?;
-    push_shown(alloc, net, j, from, entries, &layout, &marks, into)
+    push_lines(alloc, net, j, from, entries, &layout, &marks, into)
 }
 
 /// Appends the chart of the entries of a journal from one place up to another: a line an entry, and
@@ -235,7 +192,8 @@ pub fn push_chart(
     to: u64,
     into: &mut Bytes,
 ) -> Result<(), NoMemory>
-    requires { IsJournal net.now j.now }
+    requires fits { IsJournal net.now j.now }
+    requires deterministic { AreDeterministic net.now }
     ensures ok { OnOk result (into.new ≡ into.old ++ chart_text net.now j.now from to) }
     ensures err { OnErr result (into.new ≡ into.old) }
 {

@@ -111,13 +111,23 @@ fn columns_of(
     Ok(machines)
 }
 
+// The greater of two lengths.
+fn greater(a: u64, b: u64) -> u64
+    requires one { a < 2 ^ 63 }
+    requires other { b < 2 ^ 63 }
+    ensures is { result ≡ max a b }
+    ensures small { result < 2 ^ 63 }
+{
+    a.max(b)
+}
+
 // The greater of a length and that of a text.
 fn longer(longest: u64, text: &[u8]) -> u64
     requires { longest < 2 ^ 63 }
     ensures is { result ≡ max longest (length text.now) }
     ensures small { result < 2 ^ 63 }
 {
-    longest.max(text.len() as u64)
+    greater(longest, text.len() as u64)
 }
 
 // The greatest length of the names of the columns' parties.
@@ -157,7 +167,7 @@ fn longest_item(alloc: Global, net: &Network, entries: &[Entry]) -> Result<u64, 
     let mut longest = 0;
     for entry in entries {
         let count = item_length(net, entry, &mut item)?;
-        longest = longest.max(count);
+        longest = greater(longest, count);
     }
     Ok(longest)
 }
@@ -206,7 +216,7 @@ fn push_names(
     width: u64,
     into: &mut Bytes,
 ) -> Result<(), NoMemory>
-    requires machines { machines.now ≡ columns net.now entries.now }
+    requires { machines.now ≡ columns net.now entries.now }
     ensures { OnOk result (into.new ≡ into.old ++ cells width (party_names net.now entries.now)) }
 {
     push_cell(width, b"env", into)?;
@@ -250,7 +260,8 @@ pub(crate) fn begin(
     let flags = flags_of(alloc, net, entries)?;
     let machines = columns_of(alloc, net, entries, &flags)?;
     let item = longest_item(alloc, net, entries)?;
-    let width = longest_name(net, entries, &machines).max(item) + 6;
+    let name = longest_name(net, entries, &machines);
+    let width = 6 + greater(name, item);
     push_head(net, entries, &machines, width, into)?;
     let layout = layout_of(alloc, net, entries, &flags, width)?;
     Ok(layout)

@@ -9,6 +9,7 @@ mod pictures;
 mod pieces;
 mod reaction;
 mod texts;
+mod uses;
 mod worked;
 
 pub use chart::push_chart;

@@ -1,5 +1,5 @@
 -- The parts of a chart's lines, as they are put together.
-use Rattle.std.specs.Prelude.{ℕ, Bool, cond, ◌==◌, nat_le, List, [], ◌∷◌, ◌++◌, length, slice_get, option_map, unwrap_or, codes}
+use Rattle.std.specs.Prelude.{ℕ, List, [], ◌++◌, slice_get, option_map, unwrap_or, codes}
 use Rattle.polis_base.specs.Lines.{line}
 use Rattle.transition_table.specs.declared.machine.Machine.{Machine}
 use Rattle.transition_table.specs.declared.network.Network.{Network}
@@ -8,9 +8,9 @@ use Rattle.transition_table.specs.declared.snapshot.Snapshot.{Snapshot}
 use Rattle.journals.specs.declared.entry.Entry.{Entry}
 use Rattle.journals.specs.declared.entry.Entry.TheVariants.{Dep, Rea}
 use Rattle.journal_text.specs.Texts.{space, spaced}
-use Rattle.journal_chart.specs.Labels.{joined}
-use Rattle.journal_chart.specs.Notes.{emission_notes, notes_text, reaction_notes, sight_note, unused_notes}
-use Rattle.journal_chart.specs.Pictures.{trimmed}
+use Rattle.journal_chart.specs.Labels.{joined, label}
+use Rattle.journal_chart.specs.Notes.{notes_text, reaction_notes}
+use Rattle.journal_chart.specs.Pictures.{centred, trimmed}
 use Rattle.journal_chart.specs.Chart.{place_text}
 use Rattle.journal_chart.specs.inner.Marks.{lost_notes}
 
@@ -27,21 +27,11 @@ bracketed texts = codes "[" ++ joined space texts ++ codes "]"
 abbrev pub word_note : List ℕ → List (List ℕ) → List ℕ
 word_note word texts = word ++ spaced texts
 
--- the label of a reaction that would set this, and fires or doesn't
-abbrev pub label_of : ℕ → List ℕ → Bool → Bool → List ℕ
-label_of width settings fires jammed =
-    cond fires (cond (nat_le (length settings) width) settings (codes "[..]"))
-    (cond jammed (codes "jammed") (codes "idle"))
-
--- the notes of a reaction, where these are the texts of what it sets and the column has no room for
--- them or has
-abbrev pub notes_of : Network → Machine → Snapshot → Outcome → Bool → List (List ℕ)
-    → List (List ℕ)
-notes_of net machine s o wide items =
-    cond o.fires
-    (cond wide (word_note (codes "sets ") items ∷ []) []
-    ++ emission_notes net machine o ++ unused_notes net machine s.codes)
-    (sight_note net machine s.codes ∷ [])
+-- the line of a reaction at place p with its label on an axis of this picture
+abbrev pub reaction_line : Network → ℕ → Machine → Snapshot → Outcome → List ℕ → ℕ → ℕ → List ℕ
+reaction_line net width machine s o bare axis p =
+    line_of p (centred bare axis (label net width machine s o))
+    (reaction_notes net width machine s o)
 
 -- the notes of an entry that overwrites what has this mark
 abbrev pub notes_with : Network → ℕ → ℕ → Entry → List (List ℕ)

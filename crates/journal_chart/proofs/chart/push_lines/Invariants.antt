@@ -1,12 +1,10 @@
 use Rattle.std.proofs.Common.{◌≡◌, ◌+◌, ◌++◌, drop}
 use Rattle.polis_base.specs.Lists.{numbered}
-use Rattle.table_use.specs.Memos.{AreMemos}
 use Rattle.journal_chart.specs.Chart.{chart_line}
 use Rattle.journal_chart.proofs.chart.push_lines.Given as goal
 
 -- with the lines from this one on all is written
 abbrev pub invariant-loop-k : goal.invariant-loop-k
 invariant-loop-k l =
-    AreMemos l.net l.tables l.memos.items
-    × (l.into ++ numbered (chart_line l.net l.j l.entries) (l.from + l.k) (drop l.k l.entries)
-    ≡ l.fn.into ++ numbered (chart_line l.net l.j l.entries) l.from l.entries)
+    l.into ++ numbered (chart_line l.net l.j l.entries) (l.from + l.k) (drop l.k l.entries)
+    ≡ l.fn.into ++ numbered (chart_line l.net l.j l.entries) l.from l.entries

@@ -9,7 +9,7 @@ get-machine-requires c =
 pub loop-k-preserved : goal.loop-k-preserved
 loop-k-preserved c =
     names_written c.args.net.now c.args.machines.now c.args.width c.loop-k.k c.get.result.now
-    c.args.into.now c.loop-k.into c.push_cell-2.new.into c.bytes.result.now c.get.ensures
+    c.args.into.now c.loop-k.into c.push_cell-in-loop-k.new.into c.bytes.result.now c.get.ensures
     (name_of_machine c.args.net.now c.get.result.now c.get-machine.result.now c.bytes.result.now
     c.get-machine.ensures c.bytes.ensures.bytes)
     c.loop-k.invariant c.in_ok-push_cell-2.ensures

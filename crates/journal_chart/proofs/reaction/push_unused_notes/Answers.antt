@@ -16,5 +16,5 @@ pub loop-i-preserved : goal.loop-i-preserved
 loop-i-preserved c =
     let r = c.args.r.now in
     unused_more r.net.now r.machine.now r.snapshot.now.codes c.loop-i.i c.get.result.now
-    c.loop-i.notes c.push_unused_note.new.notes _ c.is_unused-unused.result c.get.ensures
-    c.is_unused-unused.ensures c.in_ok-push_unused_note.ensures c.loop-i.invariant
+    c.loop-i.notes c.push_unused_note.new.notes _ c.in_ok-unused.unused c.get.ensures
+    c.in_ok-unused.ensures c.in_ok-push_unused_note.ensures c.loop-i.invariant

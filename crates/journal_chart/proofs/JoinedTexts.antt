@@ -26,7 +26,7 @@ joined_push between (first ∷ texts) text =
     grouped : (a b c d : List ℕ) → a ++ (b ++ (c ++ d)) ≡ a ++ b ++ c ++ d
     grouped a b c d = simp append_assoc refl
 
-length_taken : {X : Type 0} (xs : List X) (k : ℕ) (x : X) → slice_get xs k ≡ Some x
+pub length_taken : {X : Type 0} (xs : List X) (k : ℕ) (x : X) → slice_get xs k ≡ Some x
     → length (take k xs) ≡ k
 length_taken [] k x at = cc
 length_taken (y ∷ xs) zero x at = refl

@@ -100,6 +100,7 @@ fn take_entry(
 ) -> Result<u64, NoMemory>
     requires journal { IsJournal net.now j.now }
     requires place { p < length j.now }
+    requires room { p + 1 < 2 ^ 64 }
     requires rows { rows.old ≡ rows_of net.now (take p j.now) }
     ensures rows { IfOk result (λ mark. rows.new ≡ rows_of net.now (take (p + 1) j.now)) }
     ensures mark { IfOk result (λ mark. mark ≡ loss_mark_at net.now j.now p) }

@@ -20,11 +20,3 @@ loop-m-preserved c =
     ∙ sym (columns_more p m flag
     (flag_is p (length c.args.net.now.machines) m c.args.flags.now flag c.requires
     (subst (λ (n : ℕ). m < n) c.len-m-end.ensures c.loop-m-test.true) c.get.ensures))
-
-pub returns : goal.returns
-returns c =
-    let end = c.len-m-end.ensures in
-    let test = c.loop-m-test.false in
-    let low = c.loop-m.auto in
-    c.loop-m.invariant
-    ∙ ap (λ (n : ℕ). filter (has_column c.args.entries.now) (upto n)) (omega arith)

@@ -1,5 +1,5 @@
 -- What one worker runs of the same texts is one product.
-use Rattle.std.proofs.Common.{◌≡◌, ◌↔◌, ◌≤◌, ℕ, List, [], ◌∷◌, Option, Some, None, Ok, IsTrue, refl, ap, sym, subst, ◌∙◌, arith}
+use Rattle.std.proofs.Common.{◌≡◌, ◌↔◌, ℕ, List, [], ◌∷◌, Option, Some, None, Ok, IsTrue, refl, ap, sym, subst, ◌∙◌, arith}
 use Rattle.std.specs.Prelude.{option_to_list}
 use Rattle.polis_base.specs.declared.limits.TheConstants.{ENTRIES_MAX}
 use Rattle.polis_base.specs.Host.{Files}
@@ -19,7 +19,6 @@ use Rattle.machine_compiler.proofs.OneRightPart.{one_right_parts}
 use Rattle.task_image.specs.Decoding.{AreBytesOf}
 use Rattle.task_image.specs.Images.{codes_of}
 use Rattle.task_image.specs.Laws.{ImageLaws}
-use Rattle.task_image.specs.declared.image.ImageMachine.{ImageMachine}
 use Rattle.polis_words.specs.declared.requests.Request.TheVariants as requests
 use Rattle.polis_words.specs.Run.{RunWords}
 use Rattle.commands.specs.declared.run_result.RunResult.{RunResult}

@@ -1,5 +1,5 @@
 -- What is made of one journal text is one product.
-use Rattle.std.proofs.Common.{◌≡◌, ◌↔◌, ℕ, Bool, List, [], ◌∷◌, length, Option, Some, None, IsTrue, ap, sym, subst, ◌∙◌, codes}
+use Rattle.std.proofs.Common.{◌≡◌, ◌↔◌, ℕ, Bool, List, [], ◌∷◌, Option, Some, None, IsTrue, ap, sym, subst, ◌∙◌}
 use Rattle.polis_base.specs.Host.{Files, bytes_at}
 use Rattle.transition_table.specs.declared.network.Network.{Network}
 use Rattle.journals.specs.declared.entry.Entry.{Entry}
@@ -8,7 +8,6 @@ use Rattle.journals.specs.Journals.{IsJournal}
 use Rattle.journals.specs.Legality.{Complete}
 use Rattle.run_watch.specs.Laws.{OneAnswer}
 use Rattle.run_watch.specs.Watches.{IsAnswer}
-use Rattle.run_watch.specs.declared.answer.Watched.{Watched}
 use Rattle.polis_words.specs.declared.requests.Request.TheVariants as requests
 use Rattle.polis_words.specs.declared.requests.explain.Explain.TheVariants.{Net, Trace, Journal}
 use Rattle.polis_words.specs.declared.requests.command.FromJournal.TheVariants.{Migrate, Wave}

@@ -1,7 +1,7 @@
 -- What a trace text of a network reads as fits the network.
-use Rattle.std.proofs.Common.{◌≡◌, ◌≤◌, ◌+◌, ℕ, suc, Bool, true, false, cond, nat_lt, List, [], ◌∷◌, ◌++◌, length, fold, slice_get, Option, Some, None, option_map, unwrap_or, Ok, Err, IsTrue, refl, ap, subst, sym, ◌∙◌, arith}
+use Rattle.std.proofs.Common.{◌≡◌, ◌≤◌, ◌+◌, ℕ, Bool, true, false, cond, nat_lt, List, [], ◌∷◌, ◌++◌, length, fold, slice_get, Option, Some, None, option_map, unwrap_or, Ok, Err, refl, ap, subst, arith}
 use Rattle.std.specs.Prelude.{Result}
-use Rattle.std.specs.List.{list_all, enumerate_from}
+use Rattle.std.specs.List.{enumerate_from}
 use Rattle.std.proofs.lemmas.Bool.{and_from}
 use Rattle.polis_base.proofs.Found.{find_is}
 use Rattle.polis_base.proofs.Lists.{all_append}

@@ -1,5 +1,5 @@
 -- The runs of a survey are those that `shuffle` saves.
-use Rattle.std.proofs.Common.{◌≡◌, ◌↔◌, ◌+◌, ◌<◌, ℕ, Bool, List, length, Option, IsTrue, ap, sym, subst, ◌∙◌, arith}
+use Rattle.std.proofs.Common.{◌↔◌, ℕ, Bool, List, Option, IsTrue, ap, sym, subst, ◌∙◌, arith}
 use Rattle.transition_table.specs.Transitions.{AreDeterministic}
 use Rattle.transition_table.specs.declared.network.Network.{Network}
 use Rattle.journals.specs.declared.entry.Entry.{Entry}

@@ -9,7 +9,6 @@ use Rattle.transition_table.specs.declared.snapshot.Outcome.{Outcome}
 use Rattle.transition_table.specs.declared.snapshot.Snapshot.{Snapshot}
 use Rattle.journals.specs.declared.entry.Entry.{Entry}
 use Rattle.journals.specs.declared.entry.Entry.TheVariants.{Dep, Rea}
-use Rattle.journals.specs.Journals.{same_party}
 use Rattle.journal_text.specs.Texts.{event_item, set_items, space}
 use Rattle.table_use.specs.Use.{is_jammed}
 use Rattle.journal_chart.specs.Pictures.{axis, cells, centred, laid}
@@ -38,13 +37,15 @@ abbrev pub to_left : ℕ → ℕ → List ℕ → List ℕ → List ℕ
 to_left a b item picture =
     centred (laid (lined b a picture) (b + 1) (codes "<")) ((a + b) / 2 + 1) (spaced_out item)
 
--- an arrow from the axis a to the axis b
-abbrev pub arrow : ℕ → ℕ → List ℕ → List ℕ → List ℕ
-arrow a b item picture = cond (nat_lt a b) (to_right a b item picture) (to_left a b item picture)
-
 -- what a machine delivers to itself, on its axis a
 abbrev pub to_itself : ℕ → List ℕ → List ℕ → List ℕ
 to_itself a item picture = centred picture a (codes "(" ++ item ++ codes ")")
+
+-- a delivery from the axis a to the axis b, which are one where a machine delivers to itself
+abbrev pub arrow : ℕ → ℕ → List ℕ → List ℕ → List ℕ
+arrow a b item picture =
+    cond (nat_lt a b) (to_right a b item picture)
+    (cond (nat_lt b a) (to_left a b item picture) (to_itself a item picture))
 
 -- `[S=V S=V]`, each state variable that a firing sets
 abbrev pub settings : Network → Machine → Outcome → List ℕ
@@ -79,10 +80,8 @@ axis_of net entries party = axis (width_of net entries) (column_of entries party
 -- the picture of an entry, among those that are shown
 abbrev pub picture : Network → List Entry → Entry → List ℕ
 picture net entries (Dep from to event code) =
-    cond (same_party from (Sender to))
-    (to_itself (axis_of net entries (Sender to)) (event_item net (event, code)) (axes net entries))
-    (arrow (axis_of net entries from) (axis_of net entries (Sender to))
-    (event_item net (event, code)) (axes net entries))
+    arrow (axis_of net entries from) (axis_of net entries (Sender to))
+    (event_item net (event, code)) (axes net entries)
 picture net entries (Rea m s o) =
     centred (axes net entries) (axis_of net entries (Sender m))
     (reaction_label net (width_of net entries) m s o)

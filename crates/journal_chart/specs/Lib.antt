@@ -3,3 +3,5 @@ pub mod Columns
 pub mod Labels
 pub mod Notes
 pub mod Chart
+pub mod Samples
+pub mod inner

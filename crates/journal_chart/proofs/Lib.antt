@@ -4,3 +4,4 @@ pub mod ItemsLeft
 pub mod MarksAfter
 pub mod UsedInputs
 pub mod InputsAlone
+pub mod Windows

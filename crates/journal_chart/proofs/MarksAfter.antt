@@ -1,24 +1,24 @@
 -- The marks of buffers, one entry more.
-use Rattle.std.proofs.Common.{◌≡◌, ℕ, zero, suc, ◌+◌, ◌-◌, ◌<◌, ◌≤◌, Bool, true, false, cond, not, ◌==◌, ◌&&◌, List, [], ◌∷◌, ◌++◌, map, length, replicate, take, drop, slice_get, slice_set, Option, Some, refl, sym, ap, ◌∙◌, subst, arith, get_or, set, codes, decimal}
+use Rattle.std.proofs.Common.{◌≡◌, ℕ, zero, suc, ◌+◌, ◌-◌, ◌<◌, ◌≤◌, Bool, true, false, cond, not, ◌==◌, ◌&&◌, List, [], ◌∷◌, ◌++◌, map, length, replicate, take, drop, slice_get, slice_set, Option, Some, refl, sym, ap, ◌∙◌, arith, codes, decimal}
 use Rattle.std.specs.Option.{option_map_or}
 use Rattle.std.proofs.lemmas.Bool.{eq-eqb, eqb-true, ne_eqb}
-use Rattle.std.proofs.lemmas.List.{append_assoc, append-nil, length-map, length_push}
-use Rattle.std.proofs.lemmas.Option.{get_or_from_slice_get}
+use Rattle.std.proofs.lemmas.List.{append_assoc, append-nil}
 use Rattle.polis_base.specs.Lists.{upto, last_of, places_from, places_where}
 use Rattle.polis_base.proofs.Places.{drop_one, length_map, same_some}
 use Rattle.polis_base.proofs.UptoPlaces.{get_map_upto, length_upto}
 use Rattle.transition_table.specs.NetworkFacts.{has}
-use Rattle.transition_table.specs.declared.machine.Machine.{Machine}
 use Rattle.transition_table.specs.declared.network.Network.{Network}
 use Rattle.journals.specs.declared.entry.Entry.{Entry}
 use Rattle.journals.specs.declared.entry.Entry.TheVariants.{Dep, Rea}
 use Rattle.journals.specs.Journals.{FitsNetwork, buffered, inputs_of, reads}
 use Rattle.journals.specs.Moved.{machine_of}
 use Rattle.journals.proofs.CursorsAfter.{machine_within}
+use Rattle.journals.proofs.EntriesAt.{prefix_more}
 use Rattle.journals.proofs.MomentsAfter.{last_of_push, place_dep, place_rea, set_table}
 use Rattle.event_accounts.specs.Accounts.{is_delivery_of}
 use Rattle.event_accounts.proofs.AccountAfter.{BringsCode}
 use Rattle.event_accounts.proofs.Balances.{brings_code}
+use Rattle.journal_chart.proofs.JoinedTexts.{length_taken}
 use Rattle.journal_chart.specs.Notes.{last_delivery, loss_notes}
 use Rattle.journal_chart.specs.inner.Marks.{loss_mark, loss_mark_at, lost_notes, mark_after, mark_among, mark_of, mark_of_loss, marks_after, row_of, rows_of}
 
@@ -84,7 +84,7 @@ marks_more p x i e mark made inputs marks now new at there is grew was =
 
 places_push : {X : Type 0} (n : ℕ) (p : X → Bool) (xs : List X) (x : X)
     → places_from n p (xs ++ x ∷ [])
-    ≡ places_from n p xs ++ cond (p x) (n + length xs ∷ []) []
+    ≡ places_from n p xs ++ cond (p x) ((n + length xs) ∷ []) []
 places_push n p [] x =
     ap (λ (k : ℕ). cond (p x) (k ∷ []) []) (none n)
   where
@@ -94,16 +94,16 @@ places_push n p (y ∷ xs) x = placed (p y) n (length xs) (p x)
     (places_from (n + 1) p (xs ++ x ∷ [])) (places_from (n + 1) p xs) (places_push (n + 1) p xs x)
   where
     placed : (b : Bool) (n k : ℕ) (t : Bool) (more rest : List ℕ)
-        → more ≡ rest ++ cond t (n + 1 + k ∷ []) []
-        → cond b (n ∷ more) more ≡ cond b (n ∷ rest) rest ++ cond t (n + suc k ∷ []) []
+        → more ≡ rest ++ cond t ((n + 1 + k) ∷ []) []
+        → cond b (n ∷ more) more ≡ cond b (n ∷ rest) rest ++ cond t ((n + suc k) ∷ []) []
     placed b n k t more rest is =
         both b (is ∙ ap (λ (i : ℕ). rest ++ cond t (i ∷ []) []) (moved n k))
       where
         moved : (n k : ℕ) → n + 1 + k ≡ n + suc k
         moved n k = omega arith
 
-        both : (b : Bool) → more ≡ rest ++ cond t (n + suc k ∷ []) []
-            → cond b (n ∷ more) more ≡ cond b (n ∷ rest) rest ++ cond t (n + suc k ∷ []) []
+        both : (b : Bool) → more ≡ rest ++ cond t ((n + suc k) ∷ []) []
+            → cond b (n ∷ more) more ≡ cond b (n ∷ rest) rest ++ cond t ((n + suc k) ∷ []) []
         both true e = ap (λ (l : List ℕ). n ∷ l) e
         both false e = e
 
@@ -112,7 +112,7 @@ last_there : (journal : List Entry) (x : Entry) (m e : ℕ) → is_delivery_of m
 last_there journal x m e is =
     ap (last_of 0) (places_push 0 (is_delivery_of m e) journal x)
     ∙ ap (λ (b : Bool). last_of 0 (places_where (is_delivery_of m e) journal
-    ++ cond b (0 + length journal ∷ []) [])) is
+    ++ cond b ((0 + length journal) ∷ []) [])) is
     ∙ last_of_push 0 (places_where (is_delivery_of m e) journal) (0 + length journal)
     ∙ none (length journal)
   where
@@ -124,7 +124,7 @@ last_away : (journal : List Entry) (x : Entry) (m e : ℕ) → is_delivery_of m 
 last_away journal x m e is =
     ap (last_of 0) (places_push 0 (is_delivery_of m e) journal x)
     ∙ ap (λ (b : Bool). last_of 0 (places_where (is_delivery_of m e) journal
-    ++ cond b (0 + length journal ∷ []) [])) is
+    ++ cond b ((0 + length journal) ∷ []) [])) is
     ∙ ap (last_of 0) (append-nil (places_where (is_delivery_of m e) journal))
 
 -- ---- one mark
@@ -171,12 +171,16 @@ mark_own journal (Rea m s o) e brings = cases o.fires refl
     cases : (b : Bool) → o.fires ≡ b
         → mark_of (journal ++ x ∷ []) m e ≡ cond o.fires 0 (mark_of journal m e)
     cases true fires =
+        let own : (m == m && o.fires) ≡ true = rw (eq-eqb m m refl, fires) refl in
         ap (λ (n : ℕ). cond (n == 0) 0 (last_delivery (journal ++ x ∷ []) m e + 1))
-        (place_rea journal m s o m e ∙ rw (eq-eqb m m refl, fires) refl)
+        (place_rea journal m s o m e
+        ∙ ap (λ (b : Bool). cond b 0 (buffered journal m e)) own)
         ∙ ap (λ (b : Bool). cond b 0 (mark_of journal m e)) (sym fires)
     cases false idles =
+        let away : (m == m && o.fires) ≡ false = rw (eq-eqb m m refl, idles) refl in
         ap (λ (n : ℕ). cond (n == 0) 0 (last_delivery (journal ++ x ∷ []) m e + 1))
-        (place_rea journal m s o m e ∙ rw (eq-eqb m m refl, idles) refl)
+        (place_rea journal m s o m e
+        ∙ ap (λ (b : Bool). cond b 0 (buffered journal m e)) away)
         ∙ ap (λ (n : ℕ). cond (buffered journal m e == 0) 0 (n + 1)) (last_away journal x m e refl)
         ∙ ap (λ (b : Bool). cond b 0 (mark_of journal m e)) (sym idles)
 
@@ -191,8 +195,9 @@ mark_away journal (Dep from to event code) m e other =
     ∙ ap (λ (n : ℕ). cond (buffered journal m e == 0) 0 (n + 1)) (last_away journal x m e away)
 mark_away journal (Rea k s o) m e other =
     let x : Entry = Rea k s o in
+    let away : (k == m && o.fires) ≡ false = rw (ne_eqb k m other) refl in
     ap (λ (n : ℕ). cond (n == 0) 0 (last_delivery (journal ++ x ∷ []) m e + 1))
-    (place_rea journal k s o m e ∙ rw (ne_eqb k m other) refl)
+    (place_rea journal k s o m e ∙ ap (λ (b : Bool). cond b 0 (buffered journal m e)) away)
     ∙ ap (λ (n : ℕ). cond (buffered journal m e == 0) 0 (n + 1)) (last_away journal x m e refl)
 
 -- ---- rows
@@ -281,6 +286,38 @@ pub loss_at : (net : Network) (journal : List Entry) (p : ℕ) (x : Entry)
     → loss_mark net (take p journal) x ≡ loss_mark_at net journal p
 loss_at net journal p x at =
     ap (λ (o : Option Entry). option_map_or (loss_mark net (take p journal)) o 0) (sym at)
+
+-- ---- the entry at a place
+
+-- the rows after the entry at place p
+pub rows_taken : (net : Network) (j : List Entry) (p m : ℕ) (x : Entry) (rows new : List (List ℕ))
+    (row after inputs : List ℕ) → FitsNetwork net x → slice_get j p ≡ Some x → m ≡ machine_of x
+    → rows ≡ rows_of net (take p j) → row ≡ row_of net (take p j) m → inputs ≡ inputs_of net m
+    → after ≡ marks_after p x inputs row → new ≡ slice_set rows m after
+    → new ≡ rows_of net (take (p + 1) j)
+rows_taken net j p m x rows new row after inputs fits at own was is are made put =
+    rows_more net (take p j) x rows new after fits was
+    (made
+    ∙ ap (λ (n : ℕ). marks_after n x inputs row) (sym (length_taken j p x at))
+    ∙ ap (λ (l : List ℕ). marks_after (length (take p j)) x l row)
+    (are ∙ ap (inputs_of net) own)
+    ∙ ap (marks_after (length (take p j)) x (inputs_of net (machine_of x)))
+    (is ∙ ap (row_of net (take p j)) own))
+    (put ∙ ap (λ (n : ℕ). slice_set rows n after) own)
+    ∙ ap (rows_of net) (sym (prefix_more j p x at))
+
+-- and what it overwrites
+pub mark_taken : (net : Network) (j : List Entry) (p m mark : ℕ) (x : Entry) (row inputs : List ℕ)
+    → slice_get j p ≡ Some x → m ≡ machine_of x → row ≡ row_of net (take p j) m
+    → inputs ≡ inputs_of net m → mark ≡ mark_of_loss inputs row x
+    → mark ≡ loss_mark_at net j p
+mark_taken net j p m mark x row inputs at own is are made =
+    made
+    ∙ ap (λ (l : List ℕ). mark_of_loss l row x) (are ∙ ap (inputs_of net) own)
+    ∙ ap (λ (l : List ℕ). mark_of_loss (inputs_of net (machine_of x)) l x)
+    (is ∙ ap (row_of net (take p j)) own)
+    ∙ mark_lost net (take p j) x
+    ∙ loss_at net j p x at
 
 -- the notes of a delivery
 pub notes_by_mark : (net : Network) (before : List Entry) (x : Entry)

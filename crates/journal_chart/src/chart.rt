@@ -1,5 +1,5 @@
 // A journal as a chart.
-ghost use Rattle.std.specs.Prelude.{◌≡◌, ◌+◌, ◌++◌, ℕ, slice_get, Some, IfOk, OnOk, OnErr};
+ghost use Rattle.std.specs.Prelude.{◌≡◌, ◌≤◌, ◌+◌, ◌++◌, ℕ, length, min, slice_get, Some, IfOk, OnOk, OnErr};
 ghost use Rattle.polis_base.specs.Lists.{numbered};
 ghost use Rattle.transition_table.specs.Transitions.{AreDeterministic};
 ghost use Rattle.journals.specs.Journals.{FitsNetwork, IsJournal};
@@ -163,6 +163,14 @@ fn push_lines(
     Ok(())
 }
 
+// The end of what is shown, which is no place behind the journal's end.
+fn end_of(j: &Journal, to: u64) -> u64
+    ensures is { result ≡ min to (length j.now) }
+    ensures low { result ≤ length j.now }
+{
+    to.min(j.len())
+}
+
 // Appends the chart.
 fn push_all(
     alloc: Global,
@@ -178,7 +186,7 @@ fn push_all(
 {
     let entries = shown(j.as_slice(), from, to);
     let layout = begin(alloc, net, entries, into)?;
-    let marks = loss_marks(alloc, net, j, to.min(j.len()))?;
+    let marks = loss_marks(alloc, net, j, end_of(j, to))?;
     push_lines(alloc, net, j, from, entries, &layout, &marks, into)
 }
 

@@ -43,20 +43,8 @@ fn mark_after(p: u64, entry: &Entry, e: u32, mark: u64) -> u64
     ensures { result ≡ mark_after_entry p entry.now e mark }
 {
     match entry {
-        Entry::Dep { event, .. } => {
-            if *event == e {
-                p + 1
-            } else {
-                mark
-            }
-        }
-        Entry::Rea { outcome, .. } => {
-            if outcome.fires {
-                0
-            } else {
-                mark
-            }
-        }
+        Entry::Dep { event, .. } => { if *event == e { p + 1 } else { mark } }
+        Entry::Rea { outcome, .. } => { if outcome.fires { 0 } else { mark } }
     }
 }
 
@@ -100,6 +88,7 @@ fn take_entry(
 ) -> Result<u64, NoMemory>
     requires journal { IsJournal net.now j.now }
     requires place { p < length j.now }
+    requires room { p + 1 < 2 ^ 64 }
     requires rows { rows.old ≡ rows_of net.now (take p j.now) }
     ensures rows { IfOk result (λ mark. rows.new ≡ rows_of net.now (take (p + 1) j.now)) }
     ensures mark { IfOk result (λ mark. mark ≡ loss_mark_at net.now j.now p) }

@@ -1,7 +1,10 @@
 // Worked rows: what the definitions say of small journals.
 ghost use Rattle.std.specs.Prelude.{◌≡◌, ◌++◌, codes};
 ghost use Rattle.polis_base.specs.Lines.{line};
-ghost use Rattle.journals.specs.Samples.{lamp, lamp_run, value};
+ghost use Rattle.transition_table.specs.samples.Pong.{pong};
+ghost use Rattle.journals.specs.Samples.{lamp, lamp_run, loop, value};
+ghost use Rattle.journals.specs.Runs.{loop_three_run, pong_run};
+ghost use Rattle.table_use.specs.Odd.{odd, odd_run};
 ghost use Rattle.journal_chart.specs.Chart.{chart_text};
 ghost use Rattle.journal_chart.specs.Samples.{value_lost_run};
 
@@ -24,4 +27,27 @@ pub fn worked_charts()
     ensures loss_before { chart_text value value_lost_run 1 2
         ≡ line (codes "          env       m")
         ++ line (codes "     1     |- v=3 ->|  lost 0") }
+    ensures left { chart_text pong pong_run 0 5
+        ≡ line (codes "          env       a        b")
+        ++ line (codes "     0     |- go -->|        |")
+        ++ line (codes "     1     |       []        |  emits p")
+        ++ line (codes "     2     |        |-- p -->|")
+        ++ line (codes "     3     |        |       []  emits q")
+        ++ line (codes "     4     |        |<-- q --|") }
+    ensures itself { chart_text loop loop_three_run 0 60000
+        ≡ line (codes "          env       m")
+        ++ line (codes "     0     |- go -->|")
+        ++ line (codes "     1     |      [c=1]  emits x")
+        ++ line (codes "     2     |       (x)")
+        ++ line (codes "     3     |      [c=2]  emits x")
+        ++ line (codes "     4     |       (x)")
+        ++ line (codes "     5     |      [c=3]") }
+    ensures jammed { chart_text odd odd_run 0 60000
+        ≡ line (codes "          env       m")
+        ++ line (codes "     0     |-- c -->|")
+        ++ line (codes "     1     |-- b -->|")
+        ++ line (codes "     2     |     [k=on]  unused c")
+        ++ line (codes "     3     |-- a -->|")
+        ++ line (codes "     4     |-- b -->|")
+        ++ line (codes "     5     |     jammed  sees a b") }
 {}

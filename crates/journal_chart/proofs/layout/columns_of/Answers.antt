@@ -1,5 +1,4 @@
-use Rattle.std.proofs.Common.{◌≡◌, ◌<◌, ◌++◌, ◌∷◌, [], ℕ, List, cond, filter, length, ap, sym, subst, ◌∙◌, arith}
-use Rattle.polis_base.specs.Lists.{upto}
+use Rattle.std.proofs.Common.{◌<◌, ◌++◌, ◌∷◌, [], ℕ, List, cond, length, ap, sym, subst, ◌∙◌}
 use Rattle.journal_chart.specs.Columns.{has_column}
 use Rattle.journal_chart.proofs.Columns.{columns_more, flag_is, length_flags}
 use Rattle.journal_chart.proofs.layout.columns_of.Goals as goal
@@ -20,11 +19,3 @@ loop-m-preserved c =
     ∙ sym (columns_more p m flag
     (flag_is p (length c.args.net.now.machines) m c.args.flags.now flag c.requires
     (subst (λ (n : ℕ). m < n) c.len-m-end.ensures c.loop-m-test.true) c.get.ensures))
-
-pub returns : goal.returns
-returns c =
-    let end = c.len-m-end.ensures in
-    let test = c.loop-m-test.false in
-    let low = c.loop-m.auto in
-    c.loop-m.invariant
-    ∙ ap (λ (n : ℕ). filter (has_column c.args.entries.now) (upto n)) (omega arith)

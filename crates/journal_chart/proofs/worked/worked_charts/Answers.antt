@@ -21,3 +21,15 @@ returns-clause-loss c = refl
 pub returns-clause-loss_before : goal.returns-clause-loss_before
 unfolding digits
 returns-clause-loss_before c = refl
+
+pub returns-clause-left : goal.returns-clause-left
+unfolding digits
+returns-clause-left c = refl
+
+pub returns-clause-itself : goal.returns-clause-itself
+unfolding digits
+returns-clause-itself c = refl
+
+pub returns-clause-jammed : goal.returns-clause-jammed
+unfolding digits
+returns-clause-jammed c = refl

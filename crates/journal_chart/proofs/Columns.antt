@@ -1,6 +1,5 @@
 -- Which machines have a column, and how wide columns are.
-use Rattle.std.proofs.Common.{subst, nat_lt, ◌&&◌, Option, unwrap_or, option_map, codes, ◌≡◌, ℕ, zero, suc, ◌+◌, ◌*◌, ◌/◌, ◌-◌, ◌<◌, ◌≤◌, max, Bool, true, false, cond, ◌==◌, ◌||◌, List, [], ◌∷◌, ◌++◌, map, filter, filter_map, flat_map, length, replicate, take, drop, slice_get, slice_set, Some, refl, sym, ap, ◌∙◌, arith}
-use Rattle.std.specs.List.{list_any}
+use Rattle.std.proofs.Common.{subst, nat_lt, ◌&&◌, Option, unwrap_or, option_map, codes, ◌≡◌, ℕ, zero, suc, ◌+◌, ◌*◌, ◌/◌, ◌-◌, ◌<◌, ◌≤◌, max, Bool, true, false, cond, ◌==◌, ◌||◌, List, [], ◌∷◌, ◌++◌, map, filter, filter_map, length, replicate, take, drop, slice_get, slice_set, Some, refl, sym, ap, ◌∙◌, arith}
 use Rattle.std.proofs.lemmas.Bool.{and_parts, eq-eqb, ltb-true, ne_eqb}
 use Rattle.std.proofs.lemmas.Grind.{replicate_next}
 use Rattle.std.proofs.lemmas.List.{append-nil, append_assoc, take-replicate, drop-replicate, length-replicate, length-append, map-append}

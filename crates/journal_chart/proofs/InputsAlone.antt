@@ -1,11 +1,9 @@
 -- Snapshots with inputs absent, and what a machine gives on them.
 use Rattle.std.proofs.Common.{◌≡◌, ◌↔◌, ℕ, zero, suc, ◌<◌, ◌≤◌, Bool, true, false, not, eqb, ◌&&◌, nat_lt, List, [], ◌∷◌, ◌++◌, drop, length, replicate, slice_get, slice_index, slice_set, Some, refl, ap, sym, ◌∙◌, ⊎_elim, inl, inr, arith}
-use Rattle.std.specs.List.{list_any}
 use Rattle.std.specs.Cmp.Derive.{both_true}
 use Rattle.std.specs.Cmp.Lexicographic.{same_text}
 use Rattle.std.proofs.lemmas.Bool.{and_parts, cases_Bool, cases_lt, eq-eqb, false≢true, lt-ltb, ltb-true, ne_eqb}
 use Rattle.std.proofs.lemmas.Option.{get_or_from_slice_get}
-use Rattle.polis_base.specs.Lists.{upto}
 use Rattle.domains.specs.Names.{is_same}
 use Rattle.domains.specs.Tables.{fits}
 use Rattle.domains.proofs.FittingCodes.{fits_set}

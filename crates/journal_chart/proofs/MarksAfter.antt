@@ -1,14 +1,12 @@
 -- The marks of buffers, one entry more.
-use Rattle.std.proofs.Common.{◌≡◌, ℕ, zero, suc, ◌+◌, ◌-◌, ◌<◌, ◌≤◌, Bool, true, false, cond, not, ◌==◌, ◌&&◌, List, [], ◌∷◌, ◌++◌, map, length, replicate, take, drop, slice_get, slice_set, Option, Some, refl, sym, ap, ◌∙◌, subst, arith, get_or, set, codes, decimal}
+use Rattle.std.proofs.Common.{◌≡◌, ℕ, zero, suc, ◌+◌, ◌-◌, ◌<◌, ◌≤◌, Bool, true, false, cond, not, ◌==◌, ◌&&◌, List, [], ◌∷◌, ◌++◌, map, length, replicate, take, drop, slice_get, slice_set, Option, Some, refl, sym, ap, ◌∙◌, arith, codes, decimal}
 use Rattle.std.specs.Option.{option_map_or}
 use Rattle.std.proofs.lemmas.Bool.{eq-eqb, eqb-true, ne_eqb}
-use Rattle.std.proofs.lemmas.List.{append_assoc, append-nil, length-map, length_push}
-use Rattle.std.proofs.lemmas.Option.{get_or_from_slice_get}
+use Rattle.std.proofs.lemmas.List.{append_assoc, append-nil}
 use Rattle.polis_base.specs.Lists.{upto, last_of, places_from, places_where}
 use Rattle.polis_base.proofs.Places.{drop_one, length_map, same_some}
 use Rattle.polis_base.proofs.UptoPlaces.{get_map_upto, length_upto}
 use Rattle.transition_table.specs.NetworkFacts.{has}
-use Rattle.transition_table.specs.declared.machine.Machine.{Machine}
 use Rattle.transition_table.specs.declared.network.Network.{Network}
 use Rattle.journals.specs.declared.entry.Entry.{Entry}
 use Rattle.journals.specs.declared.entry.Entry.TheVariants.{Dep, Rea}

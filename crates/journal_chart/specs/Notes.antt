@@ -1,5 +1,5 @@
 -- What a chart notes behind an entry's picture.
-use Rattle.std.specs.Prelude.{ℕ, Bool, cond, ◌==◌, List, [], ◌∷◌, ◌++◌, filter_map, length, take, slice_get, Option, option_map, unwrap_or, codes, decimal}
+use Rattle.std.specs.Prelude.{ℕ, cond, ◌==◌, List, [], ◌∷◌, ◌++◌, filter_map, length, take, slice_get, Option, option_map, unwrap_or, codes, decimal}
 use Rattle.std.specs.Bool.{then_some}
 use Rattle.std.specs.List.{enumerate_from}
 use Rattle.polis_base.specs.Lists.{last_of, places_where}

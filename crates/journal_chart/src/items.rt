@@ -31,12 +31,7 @@ fn push_value(net: &Network, d: u32, v: u8, into: &mut Bytes) -> Result<(), NoMe
 }
 
 // A state variable with a value.
-fn state_text(
-    alloc: Global,
-    net: &Network,
-    variable: &StateDecl,
-    v: u8,
-) -> Result<Bytes, NoMemory>
+fn state_text(alloc: Global, net: &Network, variable: &StateDecl, v: u8) -> Result<Bytes, NoMemory>
     requires { v < state_size net.now variable.now }
     ensures { IfOk result (λ item. item ≡ state_item net.now variable.now v) }
 {

@@ -43,20 +43,8 @@ fn mark_after(p: u64, entry: &Entry, e: u32, mark: u64) -> u64
     ensures { result ≡ mark_after_entry p entry.now e mark }
 {
     match entry {
-        Entry::Dep { event, .. } => {
-            if *event == e {
-                p + 1
-            } else {
-                mark
-            }
-        }
-        Entry::Rea { outcome, .. } => {
-            if outcome.fires {
-                0
-            } else {
-                mark
-            }
-        }
+        Entry::Dep { event, .. } => { if *event == e { p + 1 } else { mark } }
+        Entry::Rea { outcome, .. } => { if outcome.fires { 0 } else { mark } }
     }
 }
 

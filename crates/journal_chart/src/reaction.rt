@@ -26,9 +26,7 @@ pub(crate) struct Reaction<'a> {
     pub(crate) outcome: &'a Outcome,
     pub ghost sized_vars: { IsTrue (has_vars net.now.domains net.now.events machine.now) },
     pub ghost sized_outputs: { IsTrue (has_outputs net.now.domains net.now.events machine.now) },
-    pub ghost numbered: {
-        IsTrue (list_all (λ e. nat_lt e (length net.now.events)) machine.now.inputs)
-    },
+    pub ghost numbered: { IsTrue (list_all (λ e. nat_lt e (length net.now.events)) machine.now.inputs) },
     pub ghost deterministic: { IsDeterministic machine.now },
     pub ghost reads: { IsSnapshot machine.now snapshot.now },
     pub ghost gives: { IsOutcome machine.now outcome.now },
@@ -64,12 +62,7 @@ fn idle_label(jammed: bool) -> &'static [u8]
 }
 
 // Puts a note of a word and these texts at the end.
-fn push_note(
-    alloc: Global,
-    word: &[u8],
-    texts: &Texts,
-    notes: &mut Texts,
-) -> Result<(), NoMemory>
+fn push_note(alloc: Global, word: &[u8], texts: &Texts, notes: &mut Texts) -> Result<(), NoMemory>
     ensures { OnOk result (notes.new ≡ notes.old ++ word_note word.now texts.now ∷ []) }
 {
     let mut note = Bytes::new(alloc);
@@ -160,12 +153,7 @@ fn push_unused_notes(alloc: Global, r: &Reaction, notes: &mut Texts) -> Result<(
 }
 
 // The notes of a firing, which sets this, and for which the column has room or hasn't.
-fn firing_notes(
-    alloc: Global,
-    r: &Reaction,
-    wide: bool,
-    items: &Texts,
-) -> Result<Texts, NoMemory>
+fn firing_notes(alloc: Global, r: &Reaction, wide: bool, items: &Texts) -> Result<Texts, NoMemory>
     ensures { IfOk result (λ notes. notes ≡ cond wide (word_note (codes "sets ") items.now ∷ []) []
         ++ emission_notes r.now.net.now r.now.machine.now r.now.outcome.now
         ++ unused_notes r.now.net.now r.now.machine.now r.now.snapshot.now.codes) }

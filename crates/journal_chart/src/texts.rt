@@ -34,11 +34,7 @@ fn push_if(wanted: bool, text: &[u8], into: &mut Bytes) -> Result<(), NoMemory>
 }
 
 /// Appends texts with one more text between each two.
-pub(crate) fn push_joined(
-    between: &[u8],
-    texts: &Texts,
-    into: &mut Bytes,
-) -> Result<(), NoMemory>
+pub(crate) fn push_joined(between: &[u8], texts: &Texts, into: &mut Bytes) -> Result<(), NoMemory>
     ensures { OnOk result (into.new ≡ into.old ++ joined between.now texts.now) }
 {
     for k in 0..texts.len() {

@@ -1,12 +1,12 @@
 -- Where the columns of a chart stand, as the program keeps it.
-use Rattle.std.specs.Prelude.{◌≡◌, ℕ, List, map, filter, length}
+use Rattle.std.specs.Prelude.{◌≡◌, ℕ, List, map, length}
 use Rattle.polis_base.specs.Lists.{upto}
 use Rattle.transition_table.specs.declared.decl.Party.{Party}
 use Rattle.transition_table.specs.declared.decl.Party.TheVariants.{Env, Machine as Sender}
 use Rattle.transition_table.specs.declared.network.Network.{Network}
 use Rattle.journals.specs.declared.entry.Entry.{Entry}
 use Rattle.journals.specs.declared.entry.Entry.TheVariants.{Dep, Rea}
-use Rattle.journal_chart.specs.Columns.{columns, has_column, width_of}
+use Rattle.journal_chart.specs.Columns.{width_of}
 use Rattle.journal_chart.specs.Labels.{axes, axis_of}
 use Rattle.journal_chart.specs.declared.layout.Layout.{Layout}
 

@@ -1,5 +1,5 @@
 -- What is kept of the buffers on the way through a journal: which delivery stands in each of them.
-use Rattle.std.specs.Prelude.{ℕ, ◌+◌, ◌-◌, Bool, cond, ◌==◌, List, [], ◌∷◌, ◌++◌, map, length, take, slice_get, codes, decimal}
+use Rattle.std.specs.Prelude.{ℕ, ◌+◌, ◌-◌, cond, ◌==◌, List, [], ◌∷◌, ◌++◌, map, length, take, slice_get, codes, decimal}
 use Rattle.std.specs.Option.{option_map_or}
 use Rattle.polis_base.specs.Lists.{upto}
 use Rattle.transition_table.specs.declared.network.Network.{Network}

@@ -1,4 +1,4 @@
-use Rattle.std.proofs.Common.{◌≡◌, List, ap, ◌∙◌}
+use Rattle.std.proofs.Common.{List, ap, ◌∙◌}
 use Rattle.journals.specs.declared.entry.Entry.{Entry}
 use Rattle.journal_chart.specs.Columns.{shown}
 use Rattle.journal_chart.proofs.Windows.{mark_shown, shown_at, shown_fits}

@@ -1,4 +1,4 @@
-use Rattle.std.proofs.Common.{◌≡◌, ℕ, Bool, true, nat_lt, ◌&&◌, length, subst}
+use Rattle.std.proofs.Common.{ℕ, Bool, nat_lt, ◌&&◌, length, subst}
 use Rattle.std.specs.Prelude.{Option, IsSomeAnd}
 use Rattle.std.specs.List.{list_all}
 use Rattle.std.proofs.lemmas.Bool.{and_parts, lt-ltb}

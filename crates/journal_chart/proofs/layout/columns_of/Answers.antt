@@ -1,5 +1,4 @@
-use Rattle.std.proofs.Common.{◌≡◌, ◌<◌, ◌++◌, ◌∷◌, [], ℕ, List, cond, filter, length, ap, sym, subst, ◌∙◌, arith}
-use Rattle.polis_base.specs.Lists.{upto}
+use Rattle.std.proofs.Common.{◌<◌, ◌++◌, ◌∷◌, [], ℕ, List, cond, length, ap, sym, subst, ◌∙◌}
 use Rattle.journal_chart.specs.Columns.{has_column}
 use Rattle.journal_chart.proofs.Columns.{columns_more, flag_is, length_flags}
 use Rattle.journal_chart.proofs.layout.columns_of.Goals as goal

@@ -1,4 +1,4 @@
-use Rattle.std.proofs.Common.{◌≡◌, ℕ, Bool, false, List, length, map, take, replicate, refl, ap, sym, ◌∙◌}
+use Rattle.std.proofs.Common.{ℕ, false, List, length, map, take, replicate, refl, ap, sym, ◌∙◌}
 use Rattle.std.proofs.lemmas.Option.{slice_get_read}
 use Rattle.polis_base.specs.Lists.{upto}
 use Rattle.journals.specs.declared.entry.Entry.{Entry}

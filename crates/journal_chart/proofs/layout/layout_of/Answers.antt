@@ -1,4 +1,4 @@
-use Rattle.std.proofs.Common.{◌≡◌, ◌<◌, ◌+◌, ◌/◌, ◌++◌, ◌∷◌, [], ℕ, List, length, ap, sym, subst, ◌∙◌}
+use Rattle.std.proofs.Common.{◌<◌, ◌+◌, ◌/◌, ◌++◌, ◌∷◌, [], ℕ, List, length, ap, sym, subst, ◌∙◌}
 use Rattle.journal_chart.specs.Columns.{has_column}
 use Rattle.journal_chart.proofs.Columns.{bare_more, flag_is, length_flags, places_more}
 use Rattle.journal_chart.proofs.layout.layout_of.Goals as goal

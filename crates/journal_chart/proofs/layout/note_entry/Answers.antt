@@ -1,7 +1,4 @@
-use Rattle.std.proofs.Common.{◌≡◌, ◌<◌, ℕ, Bool, true, List, length, slice_set, ap, sym, subst, ◌∙◌}
-use Rattle.transition_table.specs.declared.decl.Party.{Party}
-use Rattle.transition_table.specs.declared.decl.Party.TheVariants.{Env, Machine as Sender}
-use Rattle.journals.specs.Moved.{machine_of}
+use Rattle.std.proofs.Common.{◌<◌, ℕ, true, length, slice_set, ap, sym, subst, ◌∙◌}
 use Rattle.journals.proofs.CursorsAfter.{machine_within}
 use Rattle.journal_chart.proofs.Columns.{entry_noted, sender_within}
 use Rattle.journal_chart.proofs.layout.note_entry.Goals as goal

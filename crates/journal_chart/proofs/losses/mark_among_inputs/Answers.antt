@@ -1,4 +1,4 @@
-use Rattle.std.proofs.Common.{◌≡◌, ℕ, length, slice_get, slice_index, Some, ap, sym, subst, ◌∙◌, arith}
+use Rattle.std.proofs.Common.{ℕ, slice_index, Some, ap, sym, ◌∙◌, arith}
 use Rattle.std.proofs.lemmas.Option.{slice_get-get_or}
 use Rattle.journal_chart.proofs.MarksAfter.{mark_here, mark_later}
 use Rattle.journal_chart.proofs.losses.mark_among_inputs.Goals as goal

@@ -1,4 +1,4 @@
-use Rattle.std.proofs.Common.{◌≡◌, ℕ, slice_index}
+use Rattle.std.proofs.Common.{slice_index}
 use Rattle.std.proofs.lemmas.Option.{slice_get-get_or}
 use Rattle.journal_chart.proofs.MarksAfter.{marks_more}
 use Rattle.journal_chart.proofs.losses.next_marks.Goals as goal

@@ -1,7 +1,7 @@
 use Rattle.std.proofs.Common.{◌≡◌, ◌<◌, ℕ, List, length, take, slice_get, Some, sym, ◌∙◌, subst}
 use Rattle.transition_table.specs.declared.network.Network.{Network}
 use Rattle.journals.specs.declared.entry.Entry.{Entry}
-use Rattle.journals.specs.Journals.{FitsNetwork, IsJournal}
+use Rattle.journals.specs.Journals.{IsJournal}
 use Rattle.journals.specs.Moved.{machine_of}
 use Rattle.journals.proofs.CursorsAfter.{machine_within}
 use Rattle.journals.proofs.EntriesAt.{fits_at}
